@@ -223,7 +223,7 @@ public:
 
   /* The numbers of the tasks that keep others waiting; as paldwosk_barrier_missing. */
   std::vector<uint64_t> missing() const {
-    std::vector<uint64_t> tasks(PALDWOSK_MOST_MEMBERS);
+    std::vector<uint64_t> tasks(PALDWOSKI_MOST_MEMBERS);
     size_t count = 0;
     must(paldwosk_barrier_missing(shared.get(), tasks.data(), tasks.size(), &count));
     tasks.resize(count);

@@ -12,13 +12,15 @@
  * Each call answers a paldwosk_answer, and a compiler warns if it isn't looked at. Here that is for `must`, which the
  * programs of examples/linked have.
  *
- * WHAT IS PROVED. The archive's functions phaser_c_waiting_.. make every decision: which tasks a call frees, with which
- * answer, in which order. They let no task go on too early, and a task that waits after a call still has to wait. At a
- * fast barrier it is one call, phaser_c_waiting_round, that decides for all tasks, and before any of them goes on.
- * NOT PROVED, but tested by tests/waiting, is what this header adds: a mutex round each of these calls, and threads
- * that spin, yield, sleep and are woken. So is the counting of the tasks that have come, and each change between fast
- * and slow. So is what it notes of each task, to say which are missing. Nor is the trace that it writes proved; a
- * replay judges it.
+ * WHAT IS PROVED. The archive's functions phaser_c_waiting_.. say of a call that they are given which tasks it frees,
+ * with which answer, in which order. By these calls no task goes on too early, and a task that waits after one still has
+ * to wait. At a fast barrier one call, phaser_c_waiting_round, makes the phase of all tasks that this header lists.
+ * NOT PROVED, but tested by tests/waiting, is what this header adds. At a fast barrier it counts the tasks that have
+ * come, keeps what they sent, and changes between fast and slow: a fault there may let a task go on early or fold a value
+ * twice. A slip of the count alone holds all up, since the last task looks at each seat. Nor is the mutex round the calls
+ * proved, nor that threads spin, yield, sleep and are woken, nor what is noted of each task to say which are missing,
+ * nor the trace that it writes; a replay judges that.
+
  *
  * WHAT IT NEEDS. gcc or clang, C11 or C++17, and the threads of POSIX. -std=c11 does: nothing has to be defined
  * before it, and it defines nothing that changes what other headers declare. Link what paldwosk.h asks for, and
@@ -35,7 +37,7 @@
  *   - A thread that has a task goes on with it or leaves; else the others wait for it. A thread that ends doesn't
  *     leave by itself.
  *   - No call is made from a signal handler, or by a thread that may be cancelled asynchronously. A call takes up to
- *     8 KB of stack.
+ *     12 KB of stack.
  *
  * FAST AND SLOW. On Linux with x86-64 a barrier is fast while all its tasks are SIG_WAIT, stand in one phase and haven't
  * signalled it. Then paldwosk_barrier_next takes no lock. It takes 1 from a count of the tasks that haven't come. The
@@ -77,8 +79,9 @@
  * watched thread doesn't spin.
  *
  * CANCELLATION AND FORK. No call is a cancellation point, also not while it waits. A thread that may be cancelled
- * elsewhere leaves by a cleanup handler of its own (pthread_cleanup_push). In a forked child each call on a barrier
- * of its parent is answered PALDWOSK_CLOSED, and touches no lock; the child may make barriers of its own.
+ * elsewhere leaves by a cleanup handler of its own (pthread_cleanup_push). In a child of fork() each call on a barrier
+ * of its parent is answered PALDWOSK_CLOSED, and touches no lock; the child may make barriers of its own. A child of
+ * _Fork() isn't known as one: it makes no call.
  *
  * ANSWERS. A call answers PALDWOSK_NULL if a pointer is NULL that may not be, or if the task is zeroed; then
  * PALDWOSK_CLOSED if there is no barrier, or it was freed; then what its function lists, with the refusals of
@@ -101,9 +104,9 @@
 #if defined __linux__ && !defined PALDWOSK_PORTABLE
 #include <sys/syscall.h>
 #ifdef SYS_futex
-#define PALDWOSK_BY_FUTEX
+#define PALDWOSKI_BY_FUTEX
 #if defined __x86_64__ && !defined PALDWOSK_WITHOUT_ROUNDS
-#define PALDWOSK_IN_ROUNDS
+#define PALDWOSKI_IN_ROUNDS
 #endif
 #endif
 #endif
@@ -112,7 +115,7 @@
 extern "C" {
 #endif
 
-#if defined PALDWOSK_BY_FUTEX && !defined __cplusplus
+#if defined PALDWOSKI_BY_FUTEX && !defined __cplusplus
 long syscall(long number, ...); /* -std=c11 hides it */
 #endif
 
@@ -121,14 +124,14 @@ int clock_gettime(int clock, struct timespec *now); /* it hides these too */
 int pthread_condattr_setclock(pthread_condattr_t *by, int clock);
 #endif
 
-struct paldwosk_member;
-struct paldwosk_overdue;
-struct paldwosk_rounds;
-struct paldwosk_sleeper;
-struct paldwosk_trace;
+struct paldwoski_member;
+struct paldwoski_overdue;
+struct paldwoski_rounds;
+struct paldwoski_sleeper;
+struct paldwoski_trace;
 
 /* How often a thread has waited; at which of these times it spins for as long as it may. */
-struct paldwosk_tries {
+struct paldwoski_tries {
   uint32_t waits, probe;
 };
 
@@ -140,30 +143,30 @@ typedef struct paldwosk_barrier {
   uint32_t watch;             /* after how many seconds a thread tells that it waits; 0: it never does */
   uint32_t accumulators;      /* how many there are */
   uint32_t tasks, processors; /* that are registered (atomic); that are online */
-#ifdef PALDWOSK_IN_ROUNDS
-  struct paldwosk_rounds *rounds; /* where its tasks come while the barrier is fast */
+#ifdef PALDWOSKI_IN_ROUNDS
+  struct paldwoski_rounds *rounds; /* where its tasks come while the barrier is fast */
   void *rounds_memory;            /* what is to be freed of it */
 #endif
-  struct paldwosk_member *members; /* the registered tasks, by their numbers */
-  struct paldwosk_trace *trace;    /* NULL if none is kept */
+  struct paldwoski_member *members; /* the registered tasks, by their numbers */
+  struct paldwoski_trace *trace;    /* NULL if none is kept */
   uint8_t kept_apart[64];          /* what changes seldom isn't in the line of the lock */
-#ifndef PALDWOSK_IN_ROUNDS
+#ifndef PALDWOSKI_IN_ROUNDS
   uint32_t turn;         /* atomic: rises when sleepers are woken; it is on this word that they sleep */
 #endif
   pthread_mutex_t lock;  /* guards what isn't said to be atomic */
-#ifndef PALDWOSK_BY_FUTEX
+#ifndef PALDWOSKI_BY_FUTEX
   pthread_cond_t turned; /* or on this */
 #endif
   paldwosk_waiting phaser;
-  struct paldwosk_sleeper *first; /* the waiting calls, the earliest in front */
-  struct paldwosk_sleeper **last; /* the place of the next of them */
-  struct paldwosk_overdue *overdue; /* the calls whose time is over, and whose answer hasn't been given */
-  struct paldwosk_overdue *room, *spare; /* room for a call of each task whose time is over; what is free of it */
+  struct paldwoski_sleeper *first; /* the waiting calls, the earliest in front */
+  struct paldwoski_sleeper **last; /* the place of the next of them */
+  struct paldwoski_overdue *overdue; /* the calls whose time is over, and whose answer hasn't been given */
+  struct paldwoski_overdue *room, *spare; /* room for a call of each task whose time is over; what is free of it */
   uint32_t to_wake;               /* bits of sleepers that were freed, and are to be woken */
   uint32_t coming;                /* how many run a single, and will be back */
   uint64_t claimer;               /* the task that claimed a single last */
-  struct paldwosk_tries tries;    /* of all threads together */
-#ifdef PALDWOSK_IN_ROUNDS
+  struct paldwoski_tries tries;    /* of all threads together */
+#ifdef PALDWOSKI_IN_ROUNDS
   uint32_t uneven;          /* how many tasks are ahead, and have another mode than SIG_WAIT, and have no seat */
   uint32_t rest, rest_left; /* at how many level moments it stays slow; how many are left of these */
 #endif
@@ -192,84 +195,84 @@ typedef struct paldwosk_task {
 #define PALDWOSK_MOST_PAUSES 2000
 
 /* How often a thread tries to take the lock before it waits for it. */
-#define PALDWOSK_LOCK_TRIES 100
+#define PALDWOSKI_LOCK_TRIES 100
 
 /* Fewer pauses than this aren't worth while. */
-#define PALDWOSK_LEAST_PAUSES 16
+#define PALDWOSKI_LEAST_PAUSES 16
 
 /* After so many others have waited one tries whether it is good to spin. */
-#define PALDWOSK_PROBE_AFTER 64
+#define PALDWOSKI_PROBE_AFTER 64
 
 /* How often a thread yields its processor at most before it sleeps. Yields of so many microseconds are long: others have
  * much to do there. */
-#define PALDWOSK_MOST_YIELDS 10
-#define PALDWOSK_LONG_YIELDS 200
+#define PALDWOSKI_MOST_YIELDS 10
+#define PALDWOSKI_LONG_YIELDS 200
 
 /* A barrier has credit for yields. Yields in vain cost some for each microsecond. A wait that a yield ends earns some,
  * and a wait without yields earns 1. So 1 ms in vain is paid by 63 waits that yields end, or by 4,000 without. A new
  * barrier has the most, which pays for 40 ms. */
-#define PALDWOSK_YIELDS_COST 4
-#define PALDWOSK_YIELDS_EARN 64
-#define PALDWOSK_MOST_CREDIT 160000
-#define PALDWOSK_LEAST_CREDIT (-1000000)
+#define PALDWOSKI_YIELDS_COST 4
+#define PALDWOSKI_YIELDS_EARN 64
+#define PALDWOSKI_MOST_CREDIT 160000
+#define PALDWOSKI_LEAST_CREDIT (-1000000)
 
 /* ---- What stands here, down to the barrier itself, isn't to be called. First: the trace of a barrier. It has an
  * event for each event of the phaser, in their order. What else the text needs, follows from these. */
 
-enum { PALDWOSK_TRACE_EVENTS = 60000, PALDWOSK_TRACE_TASKS = 4096 };
+enum { PALDWOSKI_TRACE_EVENTS = 60000, PALDWOSKI_TRACE_TASKS = 4096 };
 
 enum {
-  PALDWOSK_EVENT_MAKE,
-  PALDWOSK_EVENT_JOIN,
-  PALDWOSK_EVENT_SIGNAL, /* a signal that is a whole act */
-  PALDWOSK_EVENT_NEXT,   /* a signal after which the act goes on with a pass */
-  PALDWOSK_EVENT_SINGLE, /* the same, and it proposes a single */
-  PALDWOSK_EVENT_CLAIM,
-  PALDWOSK_EVENT_DID,
-  PALDWOSK_EVENT_PASS, /* a pass with which an act goes on */
-  PALDWOSK_EVENT_WAIT, /* a pass that is a whole act */
-  PALDWOSK_EVENT_SEND,
-  PALDWOSK_EVENT_LOOK,
-  PALDWOSK_EVENT_LOOK_AT_NOTHING,
-  PALDWOSK_EVENT_LEAVE,
-  PALDWOSK_EVENT_STILL, /* of the text alone: the task is still there when the text has to end */
-  PALDWOSK_EVENT_SHUT   /* the end of the root, which is the last of all */
+  PALDWOSKI_EVENT_MAKE,
+  PALDWOSKI_EVENT_JOIN,
+  PALDWOSKI_EVENT_SIGNAL, /* a signal that is a whole act */
+  PALDWOSKI_EVENT_NEXT,   /* a signal after which the act goes on with a pass */
+  PALDWOSKI_EVENT_SINGLE, /* the same, and it proposes a single */
+  PALDWOSKI_EVENT_CLAIM,
+  PALDWOSKI_EVENT_DID,
+  PALDWOSKI_EVENT_PASS, /* a pass with which an act goes on */
+  PALDWOSKI_EVENT_WAIT, /* a pass that is a whole act */
+  PALDWOSKI_EVENT_SEND,
+  PALDWOSKI_EVENT_LOOK,
+  PALDWOSKI_EVENT_LOOK_AT_NOTHING,
+  PALDWOSKI_EVENT_LEAVE,
+  PALDWOSKI_EVENT_STILL, /* of the text alone: the task is still there when the text has to end */
+  PALDWOSKI_EVENT_SHUT   /* the end of the root, which is the last of all */
 };
 
 /* Where a task stands in the trace. */
 enum {
-  PALDWOSK_TASK_ABSENT,
-  PALDWOSK_TASK_IDLE,
-  PALDWOSK_TASK_IN_NEXT,  /* it has signalled, and is to pass */
-  PALDWOSK_TASK_PROPOSED, /* the same, and the single that it proposed isn't done */
-  PALDWOSK_TASK_CLAIMED,  /* it runs that single */
-  PALDWOSK_TASK_REPORTED  /* that single is done, and it is to pass */
+  PALDWOSKI_TASK_ABSENT,
+  PALDWOSKI_TASK_IDLE,
+  PALDWOSKI_TASK_IN_NEXT,  /* it has signalled, and is to pass */
+  PALDWOSKI_TASK_PROPOSED, /* the same, and the single that it proposed isn't done */
+  PALDWOSKI_TASK_CLAIMED,  /* it runs that single */
+  PALDWOSKI_TASK_REPORTED  /* that single is done, and it is to pass */
 };
 
-struct paldwosk_event {
+struct paldwoski_event {
   uint8_t kind, mode;
   uint16_t task;
   uint32_t other; /* a child, the number of a single, or an accumulator */
   int64_t value;
 };
 
-struct paldwosk_trace {
+struct paldwoski_trace {
   uint32_t bound, operators[4], operator_count;
   uint32_t room, count; /* for how many events; how many there are */
   uint32_t tasks;       /* task numbers are below it */
   int has_ended;        /* a limit has come */
-  uint8_t stands[PALDWOSK_TRACE_TASKS];
-  uint32_t began[PALDWOSK_TRACE_TASKS]; /* with which event the task's last `next` began */
-  struct paldwosk_event events[PALDWOSK_TRACE_EVENTS];
+  uint8_t stands[PALDWOSKI_TRACE_TASKS];
+  uint32_t began[PALDWOSKI_TRACE_TASKS]; /* with which event the task's last `next` began */
+  struct paldwoski_event events[PALDWOSKI_TRACE_EVENTS];
 };
 
 /* Adds an event, after which the task stands so. */
-PALDWOSK_INLINE void paldwosk_trace_add(struct paldwosk_trace *trace, uint8_t kind, uint64_t task, uint8_t stands,
-                                        uint32_t other, int64_t value) {
+PALDWOSK_INLINE void paldwoski_trace_add(struct paldwoski_trace *trace, uint8_t kind, uint64_t task, uint8_t stands,
+                                         uint32_t other, int64_t value) {
   if (trace->count == trace->room) trace->has_ended = 1;
   if (trace->has_ended) return;
-  struct paldwosk_event event = {kind, 0, (uint16_t)task, other, value};
-  if (kind == PALDWOSK_EVENT_NEXT) trace->began[task] = trace->count;
+  struct paldwoski_event event = {kind, 0, (uint16_t)task, other, value};
+  if (kind == PALDWOSKI_EVENT_NEXT) trace->began[task] = trace->count;
   trace->stands[task] = stands;
   trace->events[trace->count++] = event;
 }
@@ -277,109 +280,109 @@ PALDWOSK_INLINE void paldwosk_trace_add(struct paldwosk_trace *trace, uint8_t ki
 /* A task is about to do something of which no `next` and no single consists: a second thread calls for it, or the
  * statement of a single does. A `next` is then told as the two acts `signal` and `wait`. With a single the trace
  * ends: that can't be told. */
-PALDWOSK_INLINE void paldwosk_trace_part(struct paldwosk_trace *trace, uint64_t task) {
+PALDWOSK_INLINE void paldwoski_trace_part(struct paldwoski_trace *trace, uint64_t task) {
   if (trace->has_ended) return;
-  if (trace->stands[task] == PALDWOSK_TASK_IN_NEXT) {
-    trace->events[trace->began[task]].kind = PALDWOSK_EVENT_SIGNAL;
-    trace->stands[task] = PALDWOSK_TASK_IDLE;
+  if (trace->stands[task] == PALDWOSKI_TASK_IN_NEXT) {
+    trace->events[trace->began[task]].kind = PALDWOSKI_EVENT_SIGNAL;
+    trace->stands[task] = PALDWOSKI_TASK_IDLE;
   }
-  trace->has_ended = trace->stands[task] != PALDWOSK_TASK_IDLE;
+  trace->has_ended = trace->stands[task] != PALDWOSKI_TASK_IDLE;
 }
 
 /* A new task, that `parent` joined; or the first, which is its own parent. */
-PALDWOSK_INLINE void paldwosk_trace_new_task(struct paldwosk_trace *trace, uint64_t parent, uint32_t mode,
-                                             uint64_t task) {
-  uint8_t kind = task ? PALDWOSK_EVENT_JOIN : PALDWOSK_EVENT_MAKE;
-  if (task >= PALDWOSK_TRACE_TASKS) trace->has_ended = 1;
-  if (task) paldwosk_trace_part(trace, parent);
-  paldwosk_trace_add(trace, kind, parent, PALDWOSK_TASK_IDLE, (uint32_t)task, 0);
+PALDWOSK_INLINE void paldwoski_trace_new_task(struct paldwoski_trace *trace, uint64_t parent, uint32_t mode,
+                                              uint64_t task) {
+  uint8_t kind = task ? PALDWOSKI_EVENT_JOIN : PALDWOSKI_EVENT_MAKE;
+  if (task >= PALDWOSKI_TRACE_TASKS) trace->has_ended = 1;
+  if (task) paldwoski_trace_part(trace, parent);
+  paldwoski_trace_add(trace, kind, parent, PALDWOSKI_TASK_IDLE, (uint32_t)task, 0);
   if (trace->has_ended) return;
   trace->events[trace->count - 1].mode = (uint8_t)mode;
-  trace->stands[task] = PALDWOSK_TASK_IDLE;
+  trace->stands[task] = PALDWOSKI_TASK_IDLE;
   trace->tasks = (uint32_t)task + 1;
 }
 
-PALDWOSK_INLINE void paldwosk_trace_act(struct paldwosk_trace *trace, uint8_t kind, uint64_t task, uint32_t other,
-                                        int64_t value) {
-  paldwosk_trace_part(trace, task);
-  paldwosk_trace_add(trace, kind, task, PALDWOSK_TASK_IDLE, other, value);
+PALDWOSK_INLINE void paldwoski_trace_act(struct paldwoski_trace *trace, uint8_t kind, uint64_t task, uint32_t other,
+                                         int64_t value) {
+  paldwoski_trace_part(trace, task);
+  paldwoski_trace_add(trace, kind, task, PALDWOSKI_TASK_IDLE, other, value);
 }
 
-PALDWOSK_INLINE void paldwosk_trace_passed(struct paldwosk_trace *trace, uint64_t task) {
-  int is_whole = !trace->has_ended && trace->stands[task] == PALDWOSK_TASK_IDLE;
-  paldwosk_trace_add(trace, is_whole ? PALDWOSK_EVENT_WAIT : PALDWOSK_EVENT_PASS, task, PALDWOSK_TASK_IDLE, 0, 0);
+PALDWOSK_INLINE void paldwoski_trace_passed(struct paldwoski_trace *trace, uint64_t task) {
+  int is_whole = !trace->has_ended && trace->stands[task] == PALDWOSKI_TASK_IDLE;
+  paldwoski_trace_add(trace, is_whole ? PALDWOSKI_EVENT_WAIT : PALDWOSKI_EVENT_PASS, task, PALDWOSKI_TASK_IDLE, 0, 0);
 }
 
 /* The claimer reports. Now all tasks that proposed the single may pass: there is one single at a time. */
-PALDWOSK_INLINE void paldwosk_trace_did(struct paldwosk_trace *trace, uint64_t task) {
-  paldwosk_trace_add(trace, PALDWOSK_EVENT_DID, task, PALDWOSK_TASK_REPORTED, 0, 0);
+PALDWOSK_INLINE void paldwoski_trace_did(struct paldwoski_trace *trace, uint64_t task) {
+  paldwoski_trace_add(trace, PALDWOSKI_EVENT_DID, task, PALDWOSKI_TASK_REPORTED, 0, 0);
   for (uint32_t other = 0; other < trace->tasks && !trace->has_ended; other++)
-    if (trace->stands[other] == PALDWOSK_TASK_PROPOSED) trace->stands[other] = PALDWOSK_TASK_REPORTED;
+    if (trace->stands[other] == PALDWOSKI_TASK_PROPOSED) trace->stands[other] = PALDWOSKI_TASK_REPORTED;
 }
 
-PALDWOSK_INLINE void paldwosk_trace_left(struct paldwosk_trace *trace, uint64_t task) {
-  paldwosk_trace_part(trace, task);
-  paldwosk_trace_add(trace, PALDWOSK_EVENT_LEAVE, task, PALDWOSK_TASK_ABSENT, 0, 0);
+PALDWOSK_INLINE void paldwoski_trace_left(struct paldwoski_trace *trace, uint64_t task) {
+  paldwoski_trace_part(trace, task);
+  paldwoski_trace_add(trace, PALDWOSKI_EVENT_LEAVE, task, PALDWOSKI_TASK_ABSENT, 0, 0);
 }
 
 /* ---- The text of a trace (docs/formats.md) */
 
-struct paldwosk_text {
+struct paldwoski_text {
   char *text; /* NULL if it is only measured */
   size_t length;
   uint64_t ticket;
-  const struct paldwosk_trace *trace;
+  const struct paldwoski_trace *trace;
 };
 
-PALDWOSK_INLINE void paldwosk_text_word(struct paldwosk_text *out, const char *word) {
+PALDWOSK_INLINE void paldwoski_text_word(struct paldwoski_text *out, const char *word) {
   for (; *word; word++, out->length++)
     if (out->text) out->text[out->length] = *word;
 }
 
-PALDWOSK_INLINE void paldwosk_text_number(struct paldwosk_text *out, int64_t number) {
+PALDWOSK_INLINE void paldwoski_text_number(struct paldwoski_text *out, int64_t number) {
   char digits[24], *digit = digits + 23;
   uint64_t left = number < 0 ? 0 - (uint64_t)number : (uint64_t)number;
   *digit = 0;
   do *--digit = (char)('0' + left % 10);
   while (left /= 10);
   if (number < 0) *--digit = '-';
-  paldwosk_text_word(out, digit);
+  paldwoski_text_word(out, digit);
 }
 
-PALDWOSK_INLINE void paldwosk_text_operators(struct paldwosk_text *out) {
+PALDWOSK_INLINE void paldwoski_text_operators(struct paldwoski_text *out) {
   static const char *const names[] = {"\"sum\"", "\"least\"", "\"greatest\""};
   for (uint32_t at = 0; at < out->trace->operator_count; at++) {
-    paldwosk_text_word(out, at ? "," : "");
-    paldwosk_text_word(out, names[out->trace->operators[at]]);
+    paldwoski_text_word(out, at ? "," : "");
+    paldwoski_text_word(out, names[out->trace->operators[at]]);
   }
 }
 
 /* What stands for a letter after a $ in a form. */
-PALDWOSK_INLINE void paldwosk_text_field(struct paldwosk_text *out, const struct paldwosk_event *event, char letter) {
+PALDWOSK_INLINE void paldwoski_text_field(struct paldwoski_text *out, const struct paldwoski_event *event, char letter) {
   static const char *const modes[] = {"\"SIG\"", "\"WAIT\"", "\"SIG_WAIT\"", "\"SINGLE\""};
-  if (letter == 't') paldwosk_text_number(out, event->task);
-  else if (letter == 'o') paldwosk_text_number(out, event->other);
-  else if (letter == 'v') paldwosk_text_number(out, event->value);
-  else if (letter == 'm') paldwosk_text_word(out, modes[event->mode]);
-  else if (letter == 'b') paldwosk_text_number(out, out->trace->bound);
-  else paldwosk_text_operators(out);
+  if (letter == 't') paldwoski_text_number(out, event->task);
+  else if (letter == 'o') paldwoski_text_number(out, event->other);
+  else if (letter == 'v') paldwoski_text_number(out, event->value);
+  else if (letter == 'm') paldwoski_text_word(out, modes[event->mode]);
+  else if (letter == 'b') paldwoski_text_number(out, out->trace->bound);
+  else paldwoski_text_operators(out);
 }
 
 /* One entry of the text. */
-PALDWOSK_INLINE void paldwosk_text_entry(struct paldwosk_text *out, const struct paldwosk_event *event,
-                                         const char *form) {
-  paldwosk_text_word(out, out->ticket ? ",[" : "[");
-  paldwosk_text_number(out, (int64_t)++out->ticket);
+PALDWOSK_INLINE void paldwoski_text_entry(struct paldwoski_text *out, const struct paldwoski_event *event,
+                                          const char *form) {
+  paldwoski_text_word(out, out->ticket ? ",[" : "[");
+  paldwoski_text_number(out, (int64_t)++out->ticket);
   for (char letter[2] = {0, 0}; *form; form++) {
     letter[0] = *form;
-    if (*form == '$') paldwosk_text_field(out, event, *++form);
-    else paldwosk_text_word(out, letter);
+    if (*form == '$') paldwoski_text_field(out, event, *++form);
+    else paldwoski_text_word(out, letter);
   }
-  paldwosk_text_word(out, "]");
+  paldwoski_text_word(out, "]");
 }
 
 /* The entries of an event. That of the root's end comes later, in place of its `ended`. */
-PALDWOSK_INLINE void paldwosk_text_event(struct paldwosk_text *out, const struct paldwosk_event *event) {
+PALDWOSK_INLINE void paldwoski_text_event(struct paldwoski_text *out, const struct paldwoski_event *event) {
   static const char *const forms[][3] = {
       {",\"p\",0,\"make\",$t,$m,[$a],$b", NULL, NULL},
       {",\"t\",$t,\"begin\",[\"async\",$o,[[0,$m]]]", ",\"p\",0,\"reg\",$t,$o,$m", ",\"f\",0,\"spawned\",$o"},
@@ -396,38 +399,38 @@ PALDWOSK_INLINE void paldwosk_text_event(struct paldwosk_text *out, const struct
       {",\"t\",$t,\"begin\",[\"end\"]", ",\"p\",0,\"drop\",$t", ",\"f\",0,\"ended\",$t"},
       {",\"t\",$t,\"refuse\",[\"shut\"],21", ",\"p\",0,\"drop\",$t", ",\"f\",0,\"ended\",$t"},
       {",\"f\",0,\"shut\"", NULL, NULL}};
-  int is_end = event->kind == PALDWOSK_EVENT_LEAVE || event->kind == PALDWOSK_EVENT_STILL;
+  int is_end = event->kind == PALDWOSKI_EVENT_LEAVE || event->kind == PALDWOSKI_EVENT_STILL;
   int entries = is_end && event->task == 0 ? 2 : 3;
   for (int at = 0; at < entries && forms[event->kind][at]; at++)
-    paldwosk_text_entry(out, event, forms[event->kind][at]);
+    paldwoski_text_entry(out, event, forms[event->kind][at]);
 }
 
 /* All events that were made. A `next` without its pass is told as the act `signal`. */
-PALDWOSK_INLINE void paldwosk_text_made(struct paldwosk_text *out) {
+PALDWOSK_INLINE void paldwoski_text_made(struct paldwoski_text *out) {
   for (uint32_t at = 0; at < out->trace->count; at++) {
-    struct paldwosk_event event = out->trace->events[at];
-    int is_open = out->trace->stands[event.task] == PALDWOSK_TASK_IN_NEXT && out->trace->began[event.task] == at;
-    if (event.kind == PALDWOSK_EVENT_NEXT && is_open) event.kind = PALDWOSK_EVENT_SIGNAL;
-    paldwosk_text_event(out, &event);
+    struct paldwoski_event event = out->trace->events[at];
+    int is_open = out->trace->stands[event.task] == PALDWOSKI_TASK_IN_NEXT && out->trace->began[event.task] == at;
+    if (event.kind == PALDWOSKI_EVENT_NEXT && is_open) event.kind = PALDWOSKI_EVENT_SIGNAL;
+    paldwoski_text_event(out, &event);
   }
 }
 
-PALDWOSK_INLINE void paldwosk_text_of_task(struct paldwosk_text *out, uint8_t kind, uint32_t task) {
-  struct paldwosk_event event = {kind, 0, (uint16_t)task, 0, 0};
-  paldwosk_text_event(out, &event);
+PALDWOSK_INLINE void paldwoski_text_of_task(struct paldwoski_text *out, uint8_t kind, uint32_t task) {
+  struct paldwoski_event event = {kind, 0, (uint16_t)task, 0, 0};
+  paldwoski_text_event(out, &event);
 }
 
 /* The ends of all tasks that stand so, after their passes if these are due. Each is told as a refusal that no call of a
  * barrier is answered: so a reader knows from the ends that were made those that the text alone has. */
-PALDWOSK_INLINE void paldwosk_text_ends(struct paldwosk_text *out, uint8_t stands, int is_pass_due) {
+PALDWOSK_INLINE void paldwoski_text_ends(struct paldwoski_text *out, uint8_t stands, int is_pass_due) {
   for (uint32_t task = 0; task < out->trace->tasks; task++) {
     if (out->trace->stands[task] != stands) continue;
-    if (is_pass_due) paldwosk_text_of_task(out, PALDWOSK_EVENT_PASS, task);
-    paldwosk_text_of_task(out, PALDWOSK_EVENT_STILL, task);
+    if (is_pass_due) paldwoski_text_of_task(out, PALDWOSKI_EVENT_PASS, task);
+    paldwoski_text_of_task(out, PALDWOSKI_EVENT_STILL, task);
   }
 }
 
-PALDWOSK_INLINE uint32_t paldwosk_text_first(const struct paldwosk_trace *trace, uint8_t stands) {
+PALDWOSK_INLINE uint32_t paldwoski_text_first(const struct paldwoski_trace *trace, uint8_t stands) {
   uint32_t task = 0;
   while (task < trace->tasks && trace->stands[task] != stands) task++;
   return task;
@@ -436,39 +439,39 @@ PALDWOSK_INLINE uint32_t paldwosk_text_first(const struct paldwosk_trace *trace,
 /* Makes a run of the events: all tasks that are still there end. Idle tasks end first, because they would hold up a task
  * that has proposed a single. Then the statement is told as done, if it isn't, and the others pass and end: no task of a
  * run leaves a single behind. */
-PALDWOSK_INLINE void paldwosk_text_closed(struct paldwosk_text *out) {
-  uint32_t tasks = out->trace->tasks, claimer = paldwosk_text_first(out->trace, PALDWOSK_TASK_CLAIMED);
-  uint32_t proposer = paldwosk_text_first(out->trace, PALDWOSK_TASK_PROPOSED);
-  paldwosk_text_ends(out, PALDWOSK_TASK_IDLE, 0);
-  paldwosk_text_ends(out, PALDWOSK_TASK_IN_NEXT, 0);
-  paldwosk_text_ends(out, PALDWOSK_TASK_REPORTED, 1);
-  if (claimer == tasks && proposer < tasks) paldwosk_text_of_task(out, PALDWOSK_EVENT_CLAIM, claimer = proposer);
-  if (claimer < tasks) paldwosk_text_of_task(out, PALDWOSK_EVENT_DID, claimer);
-  paldwosk_text_ends(out, PALDWOSK_TASK_CLAIMED, 1);
-  paldwosk_text_ends(out, PALDWOSK_TASK_PROPOSED, 1);
-  if (tasks == 0) paldwosk_text_entry(out, NULL, ",\"t\",0,\"begin\",[\"end\"]"); /* the phaser was never made */
-  paldwosk_text_of_task(out, PALDWOSK_EVENT_SHUT, 0);
+PALDWOSK_INLINE void paldwoski_text_closed(struct paldwoski_text *out) {
+  uint32_t tasks = out->trace->tasks, claimer = paldwoski_text_first(out->trace, PALDWOSKI_TASK_CLAIMED);
+  uint32_t proposer = paldwoski_text_first(out->trace, PALDWOSKI_TASK_PROPOSED);
+  paldwoski_text_ends(out, PALDWOSKI_TASK_IDLE, 0);
+  paldwoski_text_ends(out, PALDWOSKI_TASK_IN_NEXT, 0);
+  paldwoski_text_ends(out, PALDWOSKI_TASK_REPORTED, 1);
+  if (claimer == tasks && proposer < tasks) paldwoski_text_of_task(out, PALDWOSKI_EVENT_CLAIM, claimer = proposer);
+  if (claimer < tasks) paldwoski_text_of_task(out, PALDWOSKI_EVENT_DID, claimer);
+  paldwoski_text_ends(out, PALDWOSKI_TASK_CLAIMED, 1);
+  paldwoski_text_ends(out, PALDWOSKI_TASK_PROPOSED, 1);
+  if (tasks == 0) paldwoski_text_entry(out, NULL, ",\"t\",0,\"begin\",[\"end\"]"); /* the phaser was never made */
+  paldwoski_text_of_task(out, PALDWOSKI_EVENT_SHUT, 0);
 }
 
-PALDWOSK_INLINE size_t paldwosk_text_whole(const struct paldwosk_trace *trace, char *text) {
-  struct paldwosk_text out = {text, 0, 0, trace};
-  paldwosk_text_word(&out, "{\"events\":[");
-  paldwosk_text_made(&out);
-  paldwosk_text_closed(&out);
-  paldwosk_text_word(&out, "],\"limits\":{\"acts\":65536,\"history\":65536,\"tasks\":4096},\"version\":2}");
+PALDWOSK_INLINE size_t paldwoski_text_whole(const struct paldwoski_trace *trace, char *text) {
+  struct paldwoski_text out = {text, 0, 0, trace};
+  paldwoski_text_word(&out, "{\"events\":[");
+  paldwoski_text_made(&out);
+  paldwoski_text_closed(&out);
+  paldwoski_text_word(&out, "],\"limits\":{\"acts\":65536,\"history\":65536,\"tasks\":4096},\"version\":2}");
   return out.length;
 }
 
 /* ---- Calls that wait */
 
-enum { PALDWOSK_CALL_SIGNAL, PALDWOSK_CALL_WAIT, PALDWOSK_CALL_NEXT, PALDWOSK_CALL_SINGLE };
-enum { PALDWOSK_SPINNING = 0, PALDWOSK_READY = 1, PALDWOSK_ASLEEP = 2 };
-enum { PALDWOSK_CLOCK = 1 }; /* CLOCK_MONOTONIC */
+enum { PALDWOSKI_CALL_SIGNAL, PALDWOSKI_CALL_WAIT, PALDWOSKI_CALL_NEXT, PALDWOSKI_CALL_SINGLE };
+enum { PALDWOSKI_SPINNING = 0, PALDWOSKI_READY = 1, PALDWOSKI_ASLEEP = 2 };
+enum { PALDWOSKI_CLOCK = 1 }; /* CLOCK_MONOTONIC */
 
 /* A call that may have to wait, on the stack of the thread that makes it, or at its task's seat. Once it is READY it
  * may be gone. */
-struct paldwosk_sleeper {
-  struct paldwosk_sleeper *next;
+struct paldwoski_sleeper {
+  struct paldwoski_sleeper *next;
   uint64_t task, number; /* the number is what the answer has besides */
   uint64_t turn;         /* in a round: of the rounds, as it was before the task came */
   uint32_t call, single, answer;
@@ -482,40 +485,48 @@ struct paldwosk_sleeper {
   uint8_t is_in_round; /* it is over too once the round is over in which the task came */
 };
 
-PALDWOSK_INLINE struct paldwosk_sleeper paldwosk_new_sleeper(uint64_t task, uint32_t call, uint32_t single) {
-  struct paldwosk_sleeper me = {NULL, task, 0, 0, call, single, PALDWOSK_NOT_YET, PALDWOSK_SPINNING, 0, 0, 0, 0, 0, 0, 0};
+PALDWOSK_INLINE struct paldwoski_sleeper paldwoski_new_sleeper(uint64_t task, uint32_t call, uint32_t single) {
+  struct paldwoski_sleeper me = {NULL, task, 0, 0, call, single, PALDWOSK_NOT_YET, PALDWOSKI_SPINNING, 0, 0, 0, 0, 0, 0, 0};
   return me;
 }
 
-enum { PALDWOSK_MOST_MEMBERS = 256, PALDWOSK_MEMBER_PLACES = 512 };
+enum { PALDWOSKI_MOST_MEMBERS = 256, PALDWOSKI_MEMBER_PLACES = 512 };
 
-#ifdef PALDWOSK_IN_ROUNDS
+/* The places for freed tasks take 6 KB of stack, and those for missing tasks 2 KB. The functions that have them aren't
+ * inlined: no two have them at once. */
+#ifdef __cplusplus
+#define PALDWOSKI_APART inline __attribute__((noinline))
+#else
+#define PALDWOSKI_APART static __attribute__((noinline, unused))
+#endif
 
-enum { PALDWOSK_MOST_KEPT = 4, PALDWOSK_MOST_ACCUMULATORS = 4, PALDWOSK_SEAT_WORDS = PALDWOSK_MOST_MEMBERS / 64 };
-enum { PALDWOSK_NO_SEAT = PALDWOSK_MOST_MEMBERS };
-enum { PALDWOSK_LINE = 128 }; /* a processor may fetch two lines of memory at once */
+#ifdef PALDWOSKI_IN_ROUNDS
+
+enum { PALDWOSKI_MOST_KEPT = 4, PALDWOSKI_MOST_ACCUMULATORS = 4, PALDWOSKI_SEAT_WORDS = PALDWOSKI_MOST_MEMBERS / 64 };
+enum { PALDWOSKI_NO_SEAT = PALDWOSKI_MOST_MEMBERS };
+enum { PALDWOSKI_LINE = 128 }; /* a processor may fetch two lines of memory at once */
 
 /* Who is at a seat: nobody; a thread that touches it, and doesn't block; or one that has come, and waits. */
-enum { PALDWOSK_OUTSIDE = 0, PALDWOSK_PASSING = 1, PALDWOSK_SEATED = 2 };
+enum { PALDWOSKI_OUTSIDE = 0, PALDWOSKI_PASSING = 1, PALDWOSKI_SEATED = 2 };
 
-#define PALDWOSK_ALONE __attribute__((aligned(PALDWOSK_LINE))) /* begins a line of its own */
+#define PALDWOSKI_ALONE __attribute__((aligned(PALDWOSKI_LINE))) /* begins a line of its own */
 
 /* Where a task comes. It is its own thread's, unless another claims it, or has it with the lock while the barrier is
  * slow. */
-struct paldwosk_seat {
-  uint64_t task PALDWOSK_ALONE;         /* atomic: the number of its task; PALDWOSK_NOBODY if it is free */
+struct paldwoski_seat {
+  uint64_t task PALDWOSKI_ALONE;         /* atomic: the number of its task; PALDWOSKI_NOBODY if it is free */
   uint64_t phase;                       /* atomic: where the task stands, while the barrier is fast */
   uint64_t came;                        /* atomic: the phase after the one in which it came last; 0 once the phaser is told */
   uint32_t inside;                      /* atomic: who is at it */
   uint32_t sends;                       /* how many values it keeps of which the phaser isn't told */
-  int32_t values[PALDWOSK_MOST_KEPT];   /* these */
-  uint8_t indices[PALDWOSK_MOST_KEPT];  /* and for which accumulator each is */
-  struct paldwosk_tries tries;          /* of its thread */
-  struct paldwosk_sleeper call;         /* the next with which it has come */
+  int32_t values[PALDWOSKI_MOST_KEPT];   /* these */
+  uint8_t indices[PALDWOSKI_MOST_KEPT];  /* and for which accumulator each is */
+  struct paldwoski_tries tries;          /* of its thread */
+  struct paldwoski_sleeper call;         /* the next with which it has come */
 };
 
 /* What a look at an accumulator is answered in this phase. */
-struct paldwosk_fold {
+struct paldwoski_fold {
   uint64_t phase;
   int64_t value;
   uint32_t answer;
@@ -523,34 +534,34 @@ struct paldwosk_fold {
 
 /* The last task to come has the phaser until it sets the count again. So has the holder of the lock while the word says
  * SLOW or BUSY. What isn't atomic is theirs. */
-struct paldwosk_rounds {
-  uint64_t to_come PALDWOSK_ALONE;           /* atomic: SLOW, BUSY, and how many tasks haven't come */
-  uint64_t have_sent[PALDWOSK_SEAT_WORDS];   /* atomic: which seats keep values */
-  uint64_t whole PALDWOSK_ALONE;             /* atomic: how many rounds are over (high half); the turn (low half) */
+struct paldwoski_rounds {
+  uint64_t to_come PALDWOSKI_ALONE;           /* atomic: SLOW, BUSY, and how many tasks haven't come */
+  uint64_t have_sent[PALDWOSKI_SEAT_WORDS];   /* atomic: which seats keep values */
+  uint64_t whole PALDWOSKI_ALONE;             /* atomic: how many rounds are over (high half); the turn (low half) */
   uint32_t sleepers, is_slow;                /* atomic: how many threads sleep at seats; whether the word says SLOW */
-  struct paldwosk_fold folds[PALDWOSK_MOST_ACCUMULATORS] PALDWOSK_ALONE; /* read by tasks that haven't come */
-  uint64_t phase PALDWOSK_ALONE;             /* in which all tasks stand, while the barrier is fast */
+  struct paldwoski_fold folds[PALDWOSKI_MOST_ACCUMULATORS] PALDWOSKI_ALONE; /* read by tasks that haven't come */
+  uint64_t phase PALDWOSKI_ALONE;             /* in which all tasks stand, while the barrier is fast */
   uint64_t fast_since;                       /* the first of these phases */
   uint32_t ended;                            /* how many rounds are over, also if the others aren't let go yet */
   uint32_t wanted;                           /* bits of the accumulators at which tasks look */
-  struct paldwosk_seat *claimed;             /* by the holder of the lock, while the barrier is fast; or NULL */
-  uint64_t used[PALDWOSK_SEAT_WORDS];        /* which seats have a task */
-  uint64_t tasks[PALDWOSK_MOST_MEMBERS];     /* the registered tasks, in any order */
-  uint16_t places[PALDWOSK_MOST_MEMBERS];    /* the seats of these */
-  paldwosk_given_send sends[PALDWOSK_MOST_MEMBERS * PALDWOSK_MOST_KEPT]; /* room for the sends of a round */
-  struct paldwosk_seat seats[PALDWOSK_MOST_MEMBERS];
+  struct paldwoski_seat *claimed;             /* by the holder of the lock, while the barrier is fast; or NULL */
+  uint64_t used[PALDWOSKI_SEAT_WORDS];        /* which seats have a task */
+  uint64_t tasks[PALDWOSKI_MOST_MEMBERS];     /* the registered tasks, in any order */
+  uint16_t places[PALDWOSKI_MOST_MEMBERS];    /* the seats of these */
+  paldwosk_given_send sends[(size_t)PALDWOSKI_MOST_MEMBERS * PALDWOSKI_MOST_KEPT]; /* room for the sends of a round */
+  struct paldwoski_seat seats[PALDWOSKI_MOST_MEMBERS];
 };
 
 #endif
 
-PALDWOSK_INLINE void paldwosk_put_last(paldwosk_barrier *barrier, struct paldwosk_sleeper *sleeper) {
+PALDWOSK_INLINE void paldwoski_put_last(paldwosk_barrier *barrier, struct paldwoski_sleeper *sleeper) {
   sleeper->next = NULL;
   *barrier->last = sleeper;
   barrier->last = &sleeper->next;
 }
 
-PALDWOSK_INLINE struct paldwosk_sleeper *paldwosk_take(paldwosk_barrier *barrier, struct paldwosk_sleeper **place) {
-  struct paldwosk_sleeper *sleeper = *place;
+PALDWOSK_INLINE struct paldwoski_sleeper *paldwoski_take(paldwosk_barrier *barrier, struct paldwoski_sleeper **place) {
+  struct paldwoski_sleeper *sleeper = *place;
   if (!sleeper) return NULL;
   *place = sleeper->next;
   if (!sleeper->next) barrier->last = place;
@@ -558,22 +569,22 @@ PALDWOSK_INLINE struct paldwosk_sleeper *paldwosk_take(paldwosk_barrier *barrier
 }
 
 /* Takes out the call of this task. The phaser frees calls nearly in their order, so it stands near the front. */
-PALDWOSK_INLINE struct paldwosk_sleeper *paldwosk_take_task(paldwosk_barrier *barrier, uint64_t task) {
-  struct paldwosk_sleeper **place = &barrier->first;
+PALDWOSK_INLINE struct paldwoski_sleeper *paldwoski_take_task(paldwosk_barrier *barrier, uint64_t task) {
+  struct paldwoski_sleeper **place = &barrier->first;
   while (*place && (*place)->task != task) place = &(*place)->next;
-  return paldwosk_take(barrier, place);
+  return paldwoski_take(barrier, place);
 }
 
-PALDWOSK_INLINE struct paldwosk_sleeper *paldwosk_take_asking(paldwosk_barrier *barrier) {
-  struct paldwosk_sleeper **place = &barrier->first;
+PALDWOSK_INLINE struct paldwoski_sleeper *paldwoski_take_asking(paldwosk_barrier *barrier) {
+  struct paldwoski_sleeper **place = &barrier->first;
   while (*place && !(*place)->is_to_ask) place = &(*place)->next;
-  return paldwosk_take(barrier, place);
+  return paldwoski_take(barrier, place);
 }
 
 /* Puts another in the place of a sleeper. It is the same call from then on. */
-PALDWOSK_INLINE void paldwosk_replace(paldwosk_barrier *barrier, struct paldwosk_sleeper *sleeper,
-                                      struct paldwosk_sleeper *other) {
-  struct paldwosk_sleeper **place = &barrier->first;
+PALDWOSK_INLINE void paldwoski_replace(paldwosk_barrier *barrier, struct paldwoski_sleeper *sleeper,
+                                       struct paldwoski_sleeper *other) {
+  struct paldwoski_sleeper **place = &barrier->first;
   while (*place != sleeper) place = &(*place)->next;
   *other = *sleeper;
   *place = other;
@@ -585,26 +596,26 @@ PALDWOSK_INLINE void paldwosk_replace(paldwosk_barrier *barrier, struct paldwosk
  * the barrier is fast all stand in one phase, and no member is looked at. */
 
 /* A registered task, in the first place that is free from its number on. */
-struct paldwosk_member {
+struct paldwoski_member {
   uint64_t number;
   uint64_t passes : 60, mode : 2, is_there : 1;
   uint64_t is_ahead : 1; /* it has signalled since its last pass, by a call that is over */
 };
 
 /* The place of this task, or the free one that it would have. Half of the places are free. */
-PALDWOSK_INLINE struct paldwosk_member *paldwosk_member_of(paldwosk_barrier *barrier, uint64_t number) {
-  size_t at = number % PALDWOSK_MEMBER_PLACES;
-  while (barrier->members[at].is_there && barrier->members[at].number != number) at = (at + 1) % PALDWOSK_MEMBER_PLACES;
+PALDWOSK_INLINE struct paldwoski_member *paldwoski_member_of(paldwosk_barrier *barrier, uint64_t number) {
+  size_t at = number % PALDWOSKI_MEMBER_PLACES;
+  while (barrier->members[at].is_there && barrier->members[at].number != number) at = (at + 1) % PALDWOSKI_MEMBER_PLACES;
   return &barrier->members[at];
 }
 
 /* For how much the member counts among what keeps the barrier from being fast. */
-PALDWOSK_INLINE uint32_t paldwosk_unevenness(const struct paldwosk_member *member) {
+PALDWOSK_INLINE uint32_t paldwoski_unevenness(const struct paldwoski_member *member) {
   return (uint32_t)(member->mode != PALDWOSK_SIG_WAIT) + member->is_ahead;
 }
 
-PALDWOSK_INLINE void paldwosk_count_uneven(paldwosk_barrier *barrier, uint32_t more, uint32_t fewer) {
-#ifdef PALDWOSK_IN_ROUNDS
+PALDWOSK_INLINE void paldwoski_count_uneven(paldwosk_barrier *barrier, uint32_t more, uint32_t fewer) {
+#ifdef PALDWOSKI_IN_ROUNDS
   barrier->uneven += more - fewer;
 #else
   (void)barrier, (void)more, (void)fewer;
@@ -612,13 +623,13 @@ PALDWOSK_INLINE void paldwosk_count_uneven(paldwosk_barrier *barrier, uint32_t m
 }
 
 /* Takes a task out. Those behind it move up, if else a free place came before them. */
-PALDWOSK_INLINE void paldwosk_remove_member(paldwosk_barrier *barrier, uint64_t number) {
-  struct paldwosk_member *members = barrier->members;
-  size_t hole = (size_t)(paldwosk_member_of(barrier, number) - members);
-  paldwosk_count_uneven(barrier, 0, paldwosk_unevenness(&members[hole]));
-  for (size_t at = (hole + 1) % PALDWOSK_MEMBER_PLACES; members[at].is_there; at = (at + 1) % PALDWOSK_MEMBER_PLACES) {
-    size_t from_first = (at - members[at].number) % PALDWOSK_MEMBER_PLACES;
-    if (from_first < (at - hole) % PALDWOSK_MEMBER_PLACES) continue;
+PALDWOSK_INLINE void paldwoski_remove_member(paldwosk_barrier *barrier, uint64_t number) {
+  struct paldwoski_member *members = barrier->members;
+  size_t hole = (size_t)(paldwoski_member_of(barrier, number) - members);
+  paldwoski_count_uneven(barrier, 0, paldwoski_unevenness(&members[hole]));
+  for (size_t at = (hole + 1) % PALDWOSKI_MEMBER_PLACES; members[at].is_there; at = (at + 1) % PALDWOSKI_MEMBER_PLACES) {
+    size_t from_first = (at - members[at].number) % PALDWOSKI_MEMBER_PLACES;
+    if (from_first < (at - hole) % PALDWOSKI_MEMBER_PLACES) continue;
     members[hole] = members[at];
     hole = at;
   }
@@ -626,95 +637,95 @@ PALDWOSK_INLINE void paldwosk_remove_member(paldwosk_barrier *barrier, uint64_t 
   __atomic_store_n(&barrier->tasks, barrier->tasks - 1, __ATOMIC_RELAXED);
 }
 
-PALDWOSK_INLINE int paldwosk_can_signal(const struct paldwosk_member *member) { return member->mode != PALDWOSK_WAIT; }
+PALDWOSK_INLINE int paldwoski_can_signal(const struct paldwoski_member *member) { return member->mode != PALDWOSK_WAIT; }
 
-PALDWOSK_INLINE int paldwosk_can_wait(const struct paldwosk_member *member) { return member->mode != PALDWOSK_SIG; }
+PALDWOSK_INLINE int paldwoski_can_wait(const struct paldwoski_member *member) { return member->mode != PALDWOSK_SIG; }
 
 /* The least phase in which a task is that can wait; UINT64_MAX if there is none. */
-PALDWOSK_INLINE uint64_t paldwosk_least_phase(const paldwosk_barrier *barrier) {
+PALDWOSK_INLINE uint64_t paldwoski_least_phase(const paldwosk_barrier *barrier) {
   uint64_t least = UINT64_MAX;
-  for (size_t at = 0; at < PALDWOSK_MEMBER_PLACES; at++) {
-    const struct paldwosk_member *member = &barrier->members[at];
-    if (member->is_there && paldwosk_can_wait(member) && member->passes < least) least = member->passes;
+  for (size_t at = 0; at < PALDWOSKI_MEMBER_PLACES; at++) {
+    const struct paldwoski_member *member = &barrier->members[at];
+    if (member->is_there && paldwoski_can_wait(member) && member->passes < least) least = member->passes;
   }
   return least;
 }
 
 /* Whether the bound holds back the signal of a waiting call in this phase. Else the call has signalled. */
-PALDWOSK_INLINE int paldwosk_is_held(const paldwosk_barrier *barrier, const struct paldwosk_sleeper *sleeper,
-                                     uint64_t phase, uint64_t least) {
-  return sleeper->call != PALDWOSK_CALL_WAIT && least <= phase && phase - least >= barrier->bound;
+PALDWOSK_INLINE int paldwoski_is_held(const paldwosk_barrier *barrier, const struct paldwoski_sleeper *sleeper,
+                                      uint64_t phase, uint64_t least) {
+  return sleeper->call != PALDWOSKI_CALL_WAIT && least <= phase && phase - least >= barrier->bound;
 }
 
 /* Whether a task has signalled its phase, also if it waits in the call that did so. */
-PALDWOSK_INLINE int paldwosk_is_ahead(const paldwosk_barrier *barrier, const struct paldwosk_member *member) {
-  const struct paldwosk_sleeper *sleeper = barrier->first;
+PALDWOSK_INLINE int paldwoski_is_ahead(const paldwosk_barrier *barrier, const struct paldwoski_member *member) {
+  const struct paldwoski_sleeper *sleeper = barrier->first;
   if (member->is_ahead) return 1;
   while (sleeper && sleeper->task != member->number) sleeper = sleeper->next;
-  return sleeper && sleeper->call != PALDWOSK_CALL_WAIT &&
-         !paldwosk_is_held(barrier, sleeper, member->passes, paldwosk_least_phase(barrier));
+  return sleeper && sleeper->call != PALDWOSKI_CALL_WAIT &&
+         !paldwoski_is_held(barrier, sleeper, member->passes, paldwoski_least_phase(barrier));
 }
 
 /* A new task that stands where its parent stands; or the first, which is its own parent. */
-PALDWOSK_INLINE void paldwosk_add_member(paldwosk_barrier *barrier, uint64_t parent, uint32_t mode, uint64_t number) {
-  const struct paldwosk_member *from = paldwosk_member_of(barrier, parent);
-  struct paldwosk_member *member = paldwosk_member_of(barrier, number);
+PALDWOSK_INLINE void paldwoski_add_member(paldwosk_barrier *barrier, uint64_t parent, uint32_t mode, uint64_t number) {
+  const struct paldwoski_member *from = paldwoski_member_of(barrier, parent);
+  struct paldwoski_member *member = paldwoski_member_of(barrier, number);
   uint64_t passes = from->is_there ? from->passes : 0;
-  int is_ahead = from->is_there && mode != PALDWOSK_WAIT && paldwosk_is_ahead(barrier, from);
+  uint32_t is_ahead = from->is_there && mode != PALDWOSK_WAIT && paldwoski_is_ahead(barrier, from);
   member->number = number;
-  member->passes = passes;
+  member->passes = passes & (UINT64_MAX >> 4);
   member->mode = mode & 3;
   member->is_ahead = is_ahead & 1;
   member->is_there = 1;
-  paldwosk_count_uneven(barrier, paldwosk_unevenness(member), 0);
+  paldwoski_count_uneven(barrier, paldwoski_unevenness(member), 0);
   __atomic_store_n(&barrier->tasks, barrier->tasks + 1, __ATOMIC_RELAXED);
 }
 
 /* A call of a task was made: it has passed this phase, or it has signalled. */
-PALDWOSK_INLINE void paldwosk_move_member(paldwosk_barrier *barrier, const struct paldwosk_sleeper *sleeper) {
-  struct paldwosk_member *member = paldwosk_member_of(barrier, sleeper->task);
-  int has_passed = sleeper->answer == PALDWOSK_DONE && sleeper->call != PALDWOSK_CALL_SIGNAL;
-  uint32_t before = paldwosk_unevenness(member);
+PALDWOSK_INLINE void paldwoski_move_member(paldwosk_barrier *barrier, const struct paldwoski_sleeper *sleeper) {
+  struct paldwoski_member *member = paldwoski_member_of(barrier, sleeper->task);
+  int has_passed = sleeper->answer == PALDWOSK_DONE && sleeper->call != PALDWOSKI_CALL_SIGNAL;
+  uint32_t before = paldwoski_unevenness(member);
   if (has_passed) member->passes = (sleeper->number + 1) & (UINT64_MAX >> 4);
   member->is_ahead = !has_passed;
-  paldwosk_count_uneven(barrier, paldwosk_unevenness(member), before);
+  paldwoski_count_uneven(barrier, paldwoski_unevenness(member), before);
 }
 
 /* For which calls of others the waiting calls wait. */
-struct paldwosk_want {
-  uint8_t is_waiting[PALDWOSK_MEMBER_PLACES]; /* of each member */
+struct paldwoski_want {
+  uint8_t is_waiting[PALDWOSKI_MEMBER_PLACES]; /* of each member */
   uint64_t signals;                           /* so many signals each task has to make; 0: nobody waits to pass */
   uint64_t held;                              /* the phase after the greatest that the bound holds back; 0: none */
 };
 
-PALDWOSK_INLINE void paldwosk_find_want(paldwosk_barrier *barrier, struct paldwosk_want *want) {
-  static const struct paldwosk_want none = {{0}, 0, 0};
-  uint64_t least = paldwosk_least_phase(barrier);
+PALDWOSK_INLINE void paldwoski_find_want(paldwosk_barrier *barrier, struct paldwoski_want *want) {
+  static const struct paldwoski_want none = {{0}, 0, 0};
+  uint64_t least = paldwoski_least_phase(barrier);
   *want = none;
-  for (struct paldwosk_sleeper *at = barrier->first; at; at = at->next) {
-    const struct paldwosk_member *member = paldwosk_member_of(barrier, at->task);
-    uint64_t *most = paldwosk_is_held(barrier, at, member->passes, least) ? &want->held : &want->signals;
+  for (struct paldwoski_sleeper *at = barrier->first; at; at = at->next) {
+    const struct paldwoski_member *member = paldwoski_member_of(barrier, at->task);
+    uint64_t *most = paldwoski_is_held(barrier, at, member->passes, least) ? &want->held : &want->signals;
     want->is_waiting[member - barrier->members] = 1;
     if (*most <= member->passes) *most = member->passes + 1;
   }
 }
 
-PALDWOSK_INLINE int paldwosk_is_missing(const paldwosk_barrier *barrier, const struct paldwosk_member *member,
-                                        const struct paldwosk_want *want) {
+PALDWOSK_INLINE int paldwoski_is_missing(const paldwosk_barrier *barrier, const struct paldwoski_member *member,
+                                         const struct paldwoski_want *want) {
   int is_running = barrier->coming && barrier->claimer == member->number;
   if (!member->is_there || want->is_waiting[member - barrier->members]) return 0;
-  if (paldwosk_can_signal(member) && member->passes + member->is_ahead < want->signals) return 1;
-  if (paldwosk_can_wait(member) && member->passes + barrier->bound < want->held) return 1;
+  if (paldwoski_can_signal(member) && member->passes + member->is_ahead < want->signals) return 1;
+  if (paldwoski_can_wait(member) && member->passes + barrier->bound < want->held) return 1;
   return is_running && member->passes < want->signals;
 }
 
 /* The missing tasks, by their numbers: how many they are. */
-PALDWOSK_INLINE size_t paldwosk_find_missing(paldwosk_barrier *barrier, uint64_t missing[PALDWOSK_MOST_MEMBERS]) {
-  struct paldwosk_want want;
+PALDWOSK_INLINE size_t paldwoski_find_missing(paldwosk_barrier *barrier, uint64_t missing[PALDWOSKI_MOST_MEMBERS]) {
+  struct paldwoski_want want;
   size_t count = 0;
-  paldwosk_find_want(barrier, &want);
-  for (size_t at = 0; at < PALDWOSK_MEMBER_PLACES; at++) {
-    if (!paldwosk_is_missing(barrier, &barrier->members[at], &want)) continue;
+  paldwoski_find_want(barrier, &want);
+  for (size_t at = 0; at < PALDWOSKI_MEMBER_PLACES; at++) {
+    if (!paldwoski_is_missing(barrier, &barrier->members[at], &want)) continue;
     size_t place = count++;
     for (; place && missing[place - 1] > barrier->members[at].number; place--) missing[place] = missing[place - 1];
     missing[place] = barrier->members[at].number;
@@ -722,50 +733,58 @@ PALDWOSK_INLINE size_t paldwosk_find_missing(paldwosk_barrier *barrier, uint64_t
   return count;
 }
 
+/* The same, and writes them if there is room for all. */
+PALDWOSKI_APART size_t paldwoski_write_missing(paldwosk_barrier *barrier, uint64_t *tasks, size_t room) {
+  uint64_t missing[PALDWOSKI_MOST_MEMBERS];
+  size_t count = paldwoski_find_missing(barrier, missing);
+  for (size_t at = 0; count <= room && at < count; at++) tasks[at] = missing[at];
+  return count;
+}
+
 /* With the lock: the call of a sleeper that isn't in the list any more is over. */
-PALDWOSK_INLINE void paldwosk_set_answer(paldwosk_barrier *barrier, struct paldwosk_sleeper *sleeper, uint32_t answer,
-                                         uint64_t number) {
+PALDWOSK_INLINE void paldwoski_set_answer(paldwosk_barrier *barrier, struct paldwoski_sleeper *sleeper, uint32_t answer,
+                                          uint64_t number) {
   sleeper->answer = answer;
   sleeper->number = number;
-  if (answer == PALDWOSK_DONE || answer == PALDWOSK_CLAIMED) paldwosk_move_member(barrier, sleeper);
+  if (answer == PALDWOSK_DONE || answer == PALDWOSK_CLAIMED) paldwoski_move_member(barrier, sleeper);
   if (answer != PALDWOSK_CLAIMED) return;
   barrier->coming++;
   barrier->claimer = sleeper->task;
 }
 
-PALDWOSK_INLINE int paldwosk_is_ready(const struct paldwosk_sleeper *me) {
-  return __atomic_load_n(&me->state, __ATOMIC_ACQUIRE) == PALDWOSK_READY;
+PALDWOSK_INLINE int paldwoski_is_ready(const struct paldwoski_sleeper *me) {
+  return __atomic_load_n(&me->state, __ATOMIC_ACQUIRE) == PALDWOSKI_READY;
 }
 
 /* Whether its call is over: it has an answer, or the round is over in which its task came. */
-PALDWOSK_INLINE int paldwosk_is_over(const paldwosk_barrier *barrier, const struct paldwosk_sleeper *me) {
-#ifdef PALDWOSK_IN_ROUNDS
+PALDWOSK_INLINE int paldwoski_is_over(const paldwosk_barrier *barrier, const struct paldwoski_sleeper *me) {
+#ifdef PALDWOSKI_IN_ROUNDS
   if (me->is_in_round && (__atomic_load_n(&barrier->rounds->whole, __ATOMIC_SEQ_CST) ^ me->turn) >> 32) return 1;
 #else
   (void)barrier;
 #endif
-  return paldwosk_is_ready(me);
+  return paldwoski_is_ready(me);
 }
 
-PALDWOSK_INLINE int64_t paldwosk_microseconds(void) {
+PALDWOSK_INLINE int64_t paldwoski_microseconds(void) {
   struct timespec now = {0, 0};
   timespec_get(&now, TIME_UTC); /* of the clocks it is the one that -std=c11 doesn't hide */
   return (int64_t)now.tv_sec * 1000000 + now.tv_nsec / 1000;
 }
 
 /* The time by which a wait ends. Nobody sets this clock. */
-PALDWOSK_INLINE struct timespec paldwosk_now(void) {
+PALDWOSK_INLINE struct timespec paldwoski_now(void) {
   struct timespec now = {0, 0};
 #ifdef __linux__
-  clock_gettime(PALDWOSK_CLOCK, &now);
+  clock_gettime(PALDWOSKI_CLOCK, &now);
 #else
   timespec_get(&now, TIME_UTC); /* as condition variables have it */
 #endif
   return now;
 }
 
-PALDWOSK_INLINE struct timespec paldwosk_after(uint32_t milliseconds) {
-  struct timespec until = paldwosk_now();
+PALDWOSK_INLINE struct timespec paldwoski_after(uint32_t milliseconds) {
+  struct timespec until = paldwoski_now();
   until.tv_sec += (time_t)(milliseconds / 1000);
   until.tv_nsec += (long)(milliseconds % 1000) * 1000000;
   if (until.tv_nsec >= 1000000000) until.tv_sec++, until.tv_nsec -= 1000000000;
@@ -773,28 +792,28 @@ PALDWOSK_INLINE struct timespec paldwosk_after(uint32_t milliseconds) {
 }
 
 /* With the lock: how often the thread that waits now may yield. */
-PALDWOSK_INLINE uint32_t paldwosk_yields(paldwosk_barrier *barrier) {
+PALDWOSK_INLINE uint32_t paldwoski_yields(paldwosk_barrier *barrier) {
   int32_t credit = __atomic_load_n(&barrier->credit, __ATOMIC_RELAXED);
   if (!__atomic_load_n(&barrier->most_pauses, __ATOMIC_RELAXED)) return 0;
-  if (credit > 0) return PALDWOSK_MOST_YIELDS;
+  if (credit > 0) return PALDWOSKI_MOST_YIELDS;
   __atomic_store_n(&barrier->credit, credit + 1, __ATOMIC_RELAXED);
   return 0;
 }
 
 /* What is learned of yields that took so many microseconds. They are in vain if the thread has to sleep all the same, or
  * if they were long. A change that another thread's overtakes is lost: the credit orders nothing. */
-PALDWOSK_INLINE void paldwosk_learn_of_yields(paldwosk_barrier *barrier, int64_t took, int is_in_vain) {
+PALDWOSK_INLINE void paldwoski_learn_of_yields(paldwosk_barrier *barrier, int64_t took, int is_in_vain) {
   int32_t credit = __atomic_load_n(&barrier->credit, __ATOMIC_RELAXED);
-  int64_t better = (int64_t)credit + PALDWOSK_YIELDS_EARN;
-  if (is_in_vain) better = credit - PALDWOSK_YIELDS_COST * took;
-  if (better > PALDWOSK_MOST_CREDIT) better = PALDWOSK_MOST_CREDIT;
-  if (better < PALDWOSK_LEAST_CREDIT) better = PALDWOSK_LEAST_CREDIT;
+  int64_t better = (int64_t)credit + PALDWOSKI_YIELDS_EARN;
+  if (is_in_vain) better = credit - PALDWOSKI_YIELDS_COST * took;
+  if (better > PALDWOSKI_MOST_CREDIT) better = PALDWOSKI_MOST_CREDIT;
+  if (better < PALDWOSKI_LEAST_CREDIT) better = PALDWOSKI_LEAST_CREDIT;
   if (better != credit) __atomic_store_n(&barrier->credit, (int32_t)better, __ATOMIC_RELAXED);
 }
 
 /* Lets others have the processor, and the lock if threads sleep with it by a condition variable. */
-PALDWOSK_INLINE void paldwosk_give_way(paldwosk_barrier *barrier) {
-#ifdef PALDWOSK_BY_FUTEX
+PALDWOSK_INLINE void paldwoski_give_way(paldwosk_barrier *barrier) {
+#ifdef PALDWOSKI_BY_FUTEX
   (void)barrier;
   sched_yield();
 #else
@@ -806,20 +825,20 @@ PALDWOSK_INLINE void paldwosk_give_way(paldwosk_barrier *barrier) {
 
 /* With more threads than processors those that the call waits for may have none. To yield to them takes less time than
  * to sleep and to be woken. */
-PALDWOSK_INLINE void paldwosk_yield(paldwosk_barrier *barrier, struct paldwosk_sleeper *me) {
-  if (!me->yields || paldwosk_is_over(barrier, me)) return;
-  int64_t began = paldwosk_microseconds(), took = 0;
-  for (uint32_t done = 0; done < me->yields && took < PALDWOSK_LONG_YIELDS && !paldwosk_is_over(barrier, me); done++) {
-    paldwosk_give_way(barrier);
-    took = paldwosk_microseconds() - began;
+PALDWOSK_INLINE void paldwoski_yield(paldwosk_barrier *barrier, struct paldwoski_sleeper *me) {
+  if (!me->yields || paldwoski_is_over(barrier, me)) return;
+  int64_t began = paldwoski_microseconds(), took = 0;
+  for (uint32_t done = 0; done < me->yields && took < PALDWOSKI_LONG_YIELDS && !paldwoski_is_over(barrier, me); done++) {
+    paldwoski_give_way(barrier);
+    took = paldwoski_microseconds() - began;
     if (took < 0) took = 0; /* somebody has set the clock */
   }
-  paldwosk_learn_of_yields(barrier, took, took >= PALDWOSK_LONG_YIELDS || !paldwosk_is_over(barrier, me));
+  paldwoski_learn_of_yields(barrier, took, took >= PALDWOSKI_LONG_YIELDS || !paldwoski_is_over(barrier, me));
 }
 
-#ifdef PALDWOSK_BY_FUTEX
+#ifdef PALDWOSKI_BY_FUTEX
 
-PALDWOSK_INLINE void paldwosk_pause(void) {
+PALDWOSK_INLINE void paldwoski_pause(void) {
 #if defined __x86_64__ || defined __i386__
   __builtin_ia32_pause();
 #elif defined __aarch64__
@@ -832,8 +851,8 @@ PALDWOSK_INLINE void paldwosk_pause(void) {
 /* For how many pauses a thread that waits now spins before it sleeps: as many as the barrier has learned to be good.
  * Now and then it spins for as long as it may, to see whether that is good again. With more tasks than processors it
  * would only keep others off. */
-PALDWOSK_INLINE uint32_t paldwosk_patience(paldwosk_barrier *barrier, struct paldwosk_sleeper *me,
-                                           struct paldwosk_tries *tries) {
+PALDWOSK_INLINE uint32_t paldwoski_patience(paldwosk_barrier *barrier, struct paldwoski_sleeper *me,
+                                            struct paldwoski_tries *tries) {
   if (__atomic_load_n(&barrier->tasks, __ATOMIC_RELAXED) > barrier->processors) return 0;
   me->is_probe = ++tries->waits == tries->probe;
   if (!me->is_probe) return __atomic_load_n(&barrier->pauses, __ATOMIC_RELAXED);
@@ -843,235 +862,234 @@ PALDWOSK_INLINE uint32_t paldwosk_patience(paldwosk_barrier *barrier, struct pal
 
 /* A thread that neither spins nor yields counts as asleep from the start; but not at a traced barrier, because its call
  * may be over before the lock is given back. */
-PALDWOSK_INLINE void paldwosk_prepare(paldwosk_barrier *barrier, struct paldwosk_sleeper *me) {
-  me->patience = paldwosk_patience(barrier, me, &barrier->tries);
-  me->yields = paldwosk_yields(barrier);
-  me->state = me->patience || me->yields || barrier->trace ? PALDWOSK_SPINNING : PALDWOSK_ASLEEP;
+PALDWOSK_INLINE void paldwoski_prepare(paldwosk_barrier *barrier, struct paldwoski_sleeper *me) {
+  me->patience = paldwoski_patience(barrier, me, &barrier->tries);
+  me->yields = paldwoski_yields(barrier);
+  me->state = me->patience || me->yields || barrier->trace ? PALDWOSKI_SPINNING : PALDWOSKI_ASLEEP;
 }
 
 /* Sets a word that all who wait read, if it isn't so already. */
-PALDWOSK_INLINE void paldwosk_set(uint32_t *word, uint32_t value) {
+PALDWOSK_INLINE void paldwoski_set(uint32_t *word, uint32_t value) {
   if (__atomic_load_n(word, __ATOMIC_RELAXED) != value) __atomic_store_n(word, value, __ATOMIC_RELAXED);
 }
 
 /* What a thread learns that has spun. If it was freed meanwhile, others spin longer, else half as long, and soon not
  * at all: so a barrier at which it is in vain loses little by it. If a probe was in vain the next comes later. */
-PALDWOSK_INLINE void paldwosk_learn(paldwosk_barrier *barrier, const struct paldwosk_sleeper *me, int is_in_vain) {
+PALDWOSK_INLINE void paldwoski_learn(paldwosk_barrier *barrier, const struct paldwoski_sleeper *me, int is_in_vain) {
   uint32_t pauses = __atomic_load_n(&barrier->pauses, __ATOMIC_RELAXED);
   uint32_t after = __atomic_load_n(&barrier->probe_after, __ATOMIC_RELAXED);
   uint32_t most = __atomic_load_n(&barrier->most_pauses, __ATOMIC_RELAXED);
-  if (!is_in_vain) after = PALDWOSK_PROBE_AFTER;
-  else if (me->is_probe && after < 64 * PALDWOSK_PROBE_AFTER) after *= 2;
+  if (!is_in_vain) after = PALDWOSKI_PROBE_AFTER;
+  else if (me->is_probe && after < 64 * PALDWOSKI_PROBE_AFTER) after *= 2;
   pauses = is_in_vain ? pauses / 2 : (pauses + most + 1) / 2;
-  paldwosk_set(&barrier->probe_after, after);
-  paldwosk_set(&barrier->pauses, pauses < PALDWOSK_LEAST_PAUSES ? 0 : pauses);
+  paldwoski_set(&barrier->probe_after, after);
+  paldwoski_set(&barrier->pauses, pauses < PALDWOSKI_LEAST_PAUSES ? 0 : pauses);
 }
 
 /* The word on which threads sleep: the turn. */
-PALDWOSK_INLINE uint32_t *paldwosk_turn_word(paldwosk_barrier *barrier) {
-#ifdef PALDWOSK_IN_ROUNDS
+PALDWOSK_INLINE uint32_t *paldwoski_turn_word(paldwosk_barrier *barrier) {
+#ifdef PALDWOSKI_IN_ROUNDS
   return (uint32_t *)&barrier->rounds->whole; /* its low half */
 #else
   return &barrier->turn;
 #endif
 }
 
-PALDWOSK_INLINE uint32_t paldwosk_turn(paldwosk_barrier *barrier) {
-#ifdef PALDWOSK_IN_ROUNDS
+PALDWOSK_INLINE uint32_t paldwoski_turn(paldwosk_barrier *barrier) {
+#ifdef PALDWOSKI_IN_ROUNDS
   return (uint32_t)__atomic_load_n(&barrier->rounds->whole, __ATOMIC_SEQ_CST);
 #else
   return __atomic_load_n(&barrier->turn, __ATOMIC_ACQUIRE);
 #endif
 }
 
+/* The call that takes a time as long as time_t is: with 32 bits it is another than before, from Linux 5.1 on. */
+#ifdef SYS_futex_time64
+#define PALDWOSKI_TIMED_FUTEX (sizeof(time_t) > sizeof(long) ? SYS_futex_time64 : SYS_futex)
+#else
+#define PALDWOSKI_TIMED_FUTEX SYS_futex
+#endif
+
 /* Sleeps while the word is as it was seen; or wakes all that sleep there and have one of the bits. */
-PALDWOSK_INLINE void paldwosk_futex(uint32_t *word, int is_wake, uint32_t seen, uint32_t bits) {
+PALDWOSK_INLINE void paldwoski_futex(uint32_t *word, int is_wake, uint32_t seen, uint32_t bits) {
   enum { WAIT_BITSET = 9, WAKE_BITSET = 10, IS_PRIVATE = 128 };
   int kept = errno;
   (void)syscall(SYS_futex, word, (is_wake ? WAKE_BITSET : WAIT_BITSET) | IS_PRIVATE, seen, NULL, NULL, bits);
   errno = kept;
 }
 
-PALDWOSK_INLINE uint32_t paldwosk_bit(uint64_t task) { return (uint32_t)1 << task % 32; }
+PALDWOSK_INLINE uint32_t paldwoski_bit(uint64_t task) { return (uint32_t)1 << task % 32; }
 
 /* With the lock. A spinning thread sees it by itself; a sleeping one has to be woken. */
-PALDWOSK_INLINE void paldwosk_set_ready(paldwosk_barrier *barrier, struct paldwosk_sleeper *sleeper) {
-  uint32_t bit = paldwosk_bit(sleeper->task);
-  uint32_t state = __atomic_exchange_n(&sleeper->state, PALDWOSK_READY, __ATOMIC_ACQ_REL);
-  if (state == PALDWOSK_ASLEEP) barrier->to_wake |= bit; /* by now a sleeper that wasn't may be gone */
+PALDWOSK_INLINE void paldwoski_set_ready(paldwosk_barrier *barrier, struct paldwoski_sleeper *sleeper) {
+  uint32_t bit = paldwoski_bit(sleeper->task);
+  uint32_t state = __atomic_exchange_n(&sleeper->state, PALDWOSKI_READY, __ATOMIC_ACQ_REL);
+  if (state == PALDWOSKI_ASLEEP) barrier->to_wake |= bit; /* by now a sleeper that wasn't may be gone */
 }
 
 /* The lock is held for a fraction of a microsecond: to wait for it in the kernel would take many times that. */
-PALDWOSK_INLINE void paldwosk_lock(paldwosk_barrier *barrier) {
-  for (int tried = 0; tried < PALDWOSK_LOCK_TRIES; tried++) {
+PALDWOSK_INLINE void paldwoski_lock(paldwosk_barrier *barrier) {
+  for (int tried = 0; tried < PALDWOSKI_LOCK_TRIES; tried++) {
     if (pthread_mutex_trylock(&barrier->lock) == 0) return;
-    paldwosk_pause();
+    paldwoski_pause();
   }
   pthread_mutex_lock(&barrier->lock);
 }
 
 /* After it the call is over, or the sleeper is ASLEEP: then others have to wake it. */
-PALDWOSK_INLINE void paldwosk_spin(paldwosk_barrier *barrier, struct paldwosk_sleeper *me) {
-  uint32_t spun = 0, state = PALDWOSK_SPINNING;
-  for (; spun < me->patience && !paldwosk_is_over(barrier, me); spun++) paldwosk_pause();
-  if (me->patience) paldwosk_learn(barrier, me, spun == me->patience);
-  paldwosk_yield(barrier, me);
-  if (paldwosk_is_over(barrier, me) || __atomic_load_n(&me->state, __ATOMIC_RELAXED) != PALDWOSK_SPINNING) return;
-  __atomic_compare_exchange_n(&me->state, &state, PALDWOSK_ASLEEP, 0, __ATOMIC_ACQUIRE, __ATOMIC_ACQUIRE);
+PALDWOSK_INLINE void paldwoski_spin(paldwosk_barrier *barrier, struct paldwoski_sleeper *me) {
+  uint32_t spun = 0, state = PALDWOSKI_SPINNING;
+  for (; spun < me->patience && !paldwoski_is_over(barrier, me); spun++) paldwoski_pause();
+  if (me->patience) paldwoski_learn(barrier, me, spun == me->patience);
+  paldwoski_yield(barrier, me);
+  if (paldwoski_is_over(barrier, me) || __atomic_load_n(&me->state, __ATOMIC_RELAXED) != PALDWOSKI_SPINNING) return;
+  __atomic_compare_exchange_n(&me->state, &state, PALDWOSKI_ASLEEP, 0, __ATOMIC_ACQUIRE, __ATOMIC_ACQUIRE);
 }
 
 /* The turn is read before it is asked whether the call is over. A thread freed after that finds that the turn isn't what
  * it was, and doesn't sleep. */
-PALDWOSK_INLINE void paldwosk_sleep(paldwosk_barrier *barrier, struct paldwosk_sleeper *me) {
-  while (!paldwosk_is_over(barrier, me)) {
-    uint32_t seen = paldwosk_turn(barrier);
-    if (!paldwosk_is_over(barrier, me))
-      paldwosk_futex(paldwosk_turn_word(barrier), 0, seen, paldwosk_bit(me->task));
+PALDWOSK_INLINE void paldwoski_sleep(paldwosk_barrier *barrier, struct paldwoski_sleeper *me) {
+  while (!paldwoski_is_over(barrier, me)) {
+    uint32_t seen = paldwoski_turn(barrier);
+    if (!paldwoski_is_over(barrier, me))
+      paldwoski_futex(paldwoski_turn_word(barrier), 0, seen, paldwoski_bit(me->task));
   }
 }
 
 #else
 
-PALDWOSK_INLINE void paldwosk_lock(paldwosk_barrier *barrier) { pthread_mutex_lock(&barrier->lock); }
+PALDWOSK_INLINE void paldwoski_lock(paldwosk_barrier *barrier) { pthread_mutex_lock(&barrier->lock); }
 
-PALDWOSK_INLINE void paldwosk_prepare(paldwosk_barrier *barrier, struct paldwosk_sleeper *me) {
-  me->yields = paldwosk_yields(barrier);
+PALDWOSK_INLINE void paldwoski_prepare(paldwosk_barrier *barrier, struct paldwoski_sleeper *me) {
+  me->yields = paldwoski_yields(barrier);
 }
 
-PALDWOSK_INLINE void paldwosk_set_ready(paldwosk_barrier *barrier, struct paldwosk_sleeper *sleeper) {
-  sleeper->state = PALDWOSK_READY;
+PALDWOSK_INLINE void paldwoski_set_ready(paldwosk_barrier *barrier, struct paldwoski_sleeper *sleeper) {
+  sleeper->state = PALDWOSKI_READY;
   barrier->to_wake = 1;
 }
 
 /* Yields, and sleeps until the call is over. The waiting for a condition variable would be a cancellation point. */
-PALDWOSK_INLINE void paldwosk_sleep(paldwosk_barrier *barrier, struct paldwosk_sleeper *me) {
+PALDWOSK_INLINE void paldwoski_sleep(paldwosk_barrier *barrier, struct paldwoski_sleeper *me) {
   int old = 0;
-  paldwosk_yield(barrier, me);
+  paldwoski_yield(barrier, me);
   pthread_setcancelstate(PTHREAD_CANCEL_DISABLE, &old);
-  while (!paldwosk_is_ready(me)) pthread_cond_wait(&barrier->turned, &barrier->lock);
+  while (!paldwoski_is_ready(me)) pthread_cond_wait(&barrier->turned, &barrier->lock);
   pthread_setcancelstate(old, &old);
 }
 
 #endif
 
-PALDWOSK_INLINE void paldwosk_set_parked(paldwosk_barrier *barrier, struct paldwosk_sleeper *me) {
+PALDWOSK_INLINE void paldwoski_set_parked(paldwosk_barrier *barrier, struct paldwoski_sleeper *me) {
   me->is_parked = 1;
-  paldwosk_prepare(barrier, me);
+  paldwoski_prepare(barrier, me);
   __atomic_fetch_add(&barrier->inside, 1, __ATOMIC_RELAXED);
 }
 
-PALDWOSK_INLINE void paldwosk_park(paldwosk_barrier *barrier, struct paldwosk_sleeper *me) {
-  paldwosk_set_parked(barrier, me);
-  paldwosk_put_last(barrier, me);
+PALDWOSK_INLINE void paldwoski_park(paldwosk_barrier *barrier, struct paldwoski_sleeper *me) {
+  paldwoski_set_parked(barrier, me);
+  paldwoski_put_last(barrier, me);
 }
 
 /* ---- The phaser's calls, all with the lock. A traced barrier makes one call for each event, so that it knows them
  * all: in place of a signal with a pass a signal, and then, once that is made, a pass. Whoever is freed at its signal
  * is put into the list again, and asks to pass before the lock is given back. */
 
-PALDWOSK_INLINE uint32_t paldwosk_ask_whole(paldwosk_barrier *barrier, struct paldwosk_sleeper *me,
-                                            paldwosk_freed *freed, size_t *count) {
+PALDWOSK_INLINE uint32_t paldwoski_ask_whole(paldwosk_barrier *barrier, struct paldwoski_sleeper *me,
+                                             paldwosk_freed *freed, size_t *count) {
   paldwosk_waiting *phaser = &barrier->phaser;
   size_t room = PALDWOSK_MOST_FREED;
-  if (me->call == PALDWOSK_CALL_NEXT) return phaser_c_waiting_next(phaser, me->task, &me->number, freed, room, count);
-  if (me->call == PALDWOSK_CALL_WAIT) return phaser_c_waiting_pass(phaser, me->task, &me->number, freed, room, count);
-  if (me->call == PALDWOSK_CALL_SIGNAL) return phaser_c_waiting_signal(phaser, me->task, freed, room, count);
+  if (me->call == PALDWOSKI_CALL_NEXT) return phaser_c_waiting_next(phaser, me->task, &me->number, freed, room, count);
+  if (me->call == PALDWOSKI_CALL_WAIT) return phaser_c_waiting_pass(phaser, me->task, &me->number, freed, room, count);
+  if (me->call == PALDWOSKI_CALL_SIGNAL) return phaser_c_waiting_signal(phaser, me->task, freed, room, count);
   return phaser_c_waiting_next_single(phaser, me->task, me->single, &me->number, freed, room, count);
 }
 
-PALDWOSK_INLINE uint32_t paldwosk_ask_once(paldwosk_barrier *barrier, struct paldwosk_sleeper *me,
-                                           paldwosk_freed *freed, size_t *count) {
+PALDWOSK_INLINE uint32_t paldwoski_ask_once(paldwosk_barrier *barrier, struct paldwoski_sleeper *me,
+                                            paldwosk_freed *freed, size_t *count) {
   paldwosk_waiting *phaser = &barrier->phaser;
   size_t room = PALDWOSK_MOST_FREED;
   if (me->is_to_pass) return phaser_c_waiting_pass(phaser, me->task, &me->number, freed, room, count);
-  if (me->call != PALDWOSK_CALL_SINGLE) return phaser_c_waiting_signal(phaser, me->task, freed, room, count);
+  if (me->call != PALDWOSKI_CALL_SINGLE) return phaser_c_waiting_signal(phaser, me->task, freed, room, count);
   return phaser_c_waiting_signal_single(phaser, me->task, me->single, freed, room, count);
 }
 
 /* The event of a traced call that was made. */
-PALDWOSK_INLINE void paldwosk_trace_call(struct paldwosk_trace *trace, const struct paldwosk_sleeper *of,
-                                         uint32_t answer) {
-  static const uint8_t kinds[] = {PALDWOSK_EVENT_SIGNAL, 0, PALDWOSK_EVENT_NEXT, PALDWOSK_EVENT_SINGLE};
-  static const uint8_t stands[] = {PALDWOSK_TASK_IDLE, 0, PALDWOSK_TASK_IN_NEXT, PALDWOSK_TASK_PROPOSED};
+PALDWOSK_INLINE void paldwoski_trace_call(struct paldwoski_trace *trace, const struct paldwoski_sleeper *of,
+                                          uint32_t answer) {
+  static const uint8_t kinds[] = {PALDWOSKI_EVENT_SIGNAL, 0, PALDWOSKI_EVENT_NEXT, PALDWOSKI_EVENT_SINGLE};
+  static const uint8_t stands[] = {PALDWOSKI_TASK_IDLE, 0, PALDWOSKI_TASK_IN_NEXT, PALDWOSKI_TASK_PROPOSED};
   uint64_t task = of->task;
-  if (answer == PALDWOSK_CLAIMED) paldwosk_trace_add(trace, PALDWOSK_EVENT_CLAIM, task, PALDWOSK_TASK_CLAIMED, 0, 0);
+  if (answer == PALDWOSK_CLAIMED) paldwoski_trace_add(trace, PALDWOSKI_EVENT_CLAIM, task, PALDWOSKI_TASK_CLAIMED, 0, 0);
   else if (answer != PALDWOSK_DONE) return;
-  else if (of->is_to_pass) paldwosk_trace_passed(trace, task);
-  else paldwosk_trace_add(trace, kinds[of->call], task, stands[of->call], of->single, 0);
+  else if (of->is_to_pass) paldwoski_trace_passed(trace, task);
+  else paldwoski_trace_add(trace, kinds[of->call], task, stands[of->call], of->single, 0);
 }
 
 /* A call of a sleeper that isn't in the list has ended so. */
-PALDWOSK_INLINE void paldwosk_go_on(paldwosk_barrier *barrier, struct paldwosk_sleeper *sleeper, uint32_t answer,
-                                    uint64_t number) {
-  if (barrier->trace) paldwosk_trace_call(barrier->trace, sleeper, answer);
-  if (barrier->trace && answer == PALDWOSK_DONE && !sleeper->is_to_pass && sleeper->call != PALDWOSK_CALL_SIGNAL) {
+PALDWOSK_INLINE void paldwoski_go_on(paldwosk_barrier *barrier, struct paldwoski_sleeper *sleeper, uint32_t answer,
+                                     uint64_t number) {
+  if (barrier->trace) paldwoski_trace_call(barrier->trace, sleeper, answer);
+  if (barrier->trace && answer == PALDWOSK_DONE && !sleeper->is_to_pass && sleeper->call != PALDWOSKI_CALL_SIGNAL) {
     sleeper->is_to_ask = sleeper->is_to_pass = 1;
-    paldwosk_put_last(barrier, sleeper);
+    paldwoski_put_last(barrier, sleeper);
     return;
   }
-  paldwosk_set_answer(barrier, sleeper, answer, number);
-  paldwosk_set_ready(barrier, sleeper);
+  paldwoski_set_answer(barrier, sleeper, answer, number);
+  paldwoski_set_ready(barrier, sleeper);
 }
 
-PALDWOSK_INLINE void paldwosk_free_those(paldwosk_barrier *barrier, const paldwosk_freed *freed, size_t count) {
+PALDWOSK_INLINE void paldwoski_free_those(paldwosk_barrier *barrier, const paldwosk_freed *freed, size_t count) {
   for (size_t at = 0; at < count; at++) {
-    struct paldwosk_sleeper *sleeper = paldwosk_take_task(barrier, freed[at].task);
-    if (sleeper) paldwosk_go_on(barrier, sleeper, freed[at].answer, freed[at].number);
+    struct paldwoski_sleeper *sleeper = paldwoski_take_task(barrier, freed[at].task);
+    if (sleeper) paldwoski_go_on(barrier, sleeper, freed[at].answer, freed[at].number);
   }
 }
 
-/* The places for freed tasks take 6 KB of stack. The functions that have them aren't inlined: no two have them at
- * once. */
-#ifdef __cplusplus
-#define PALDWOSK_APART inline __attribute__((noinline))
-#else
-#define PALDWOSK_APART static __attribute__((noinline, unused))
-#endif
-
-PALDWOSK_APART void paldwosk_ask_and_free(paldwosk_barrier *barrier, struct paldwosk_sleeper *me) {
+PALDWOSKI_APART void paldwoski_ask_and_free(paldwosk_barrier *barrier, struct paldwoski_sleeper *me) {
   paldwosk_freed freed[PALDWOSK_MOST_FREED];
   size_t count = 0;
-  uint32_t answer = paldwosk_ask_whole(barrier, me, freed, &count);
-  if (answer == PALDWOSK_NOT_YET) paldwosk_park(barrier, me);
-  else paldwosk_set_answer(barrier, me, answer, me->number);
-  paldwosk_free_those(barrier, freed, count);
+  uint32_t answer = paldwoski_ask_whole(barrier, me, freed, &count);
+  if (answer == PALDWOSK_NOT_YET) paldwoski_park(barrier, me);
+  else paldwoski_set_answer(barrier, me, answer, me->number);
+  paldwoski_free_those(barrier, freed, count);
 }
 
 /* Makes the call of a sleeper that isn't in the list: of one at a traced barrier, or of one that has come in a round. */
-PALDWOSK_APART void paldwosk_ask_for(paldwosk_barrier *barrier, struct paldwosk_sleeper *sleeper) {
+PALDWOSKI_APART void paldwoski_ask_for(paldwosk_barrier *barrier, struct paldwoski_sleeper *sleeper) {
   paldwosk_freed freed[PALDWOSK_MOST_FREED];
   size_t count = 0;
   uint32_t answer;
   sleeper->is_to_ask = 0;
-  if (barrier->trace) answer = paldwosk_ask_once(barrier, sleeper, freed, &count);
-  else answer = paldwosk_ask_whole(barrier, sleeper, freed, &count);
-  if (answer == PALDWOSK_NOT_YET) paldwosk_put_last(barrier, sleeper);
-  else paldwosk_go_on(barrier, sleeper, answer, sleeper->number);
-  paldwosk_free_those(barrier, freed, count);
+  if (barrier->trace) answer = paldwoski_ask_once(barrier, sleeper, freed, &count);
+  else answer = paldwoski_ask_whole(barrier, sleeper, freed, &count);
+  if (answer == PALDWOSK_NOT_YET) paldwoski_put_last(barrier, sleeper);
+  else paldwoski_go_on(barrier, sleeper, answer, sleeper->number);
+  paldwoski_free_those(barrier, freed, count);
 }
 
 /* ---- Calls whose time is over. Such a call stands among the sleepers until it is freed, and keeps its answer. */
 
-struct paldwosk_overdue {
-  struct paldwosk_sleeper call;
-  struct paldwosk_overdue *next;
+struct paldwoski_overdue {
+  struct paldwoski_sleeper call;
+  struct paldwoski_overdue *next;
 };
 
 /* The place of a task's overdue call in their list; that of NULL if it has none. */
-PALDWOSK_INLINE struct paldwosk_overdue **paldwosk_overdue_of(paldwosk_barrier *barrier, uint64_t task) {
-  struct paldwosk_overdue **place = &barrier->overdue;
+PALDWOSK_INLINE struct paldwoski_overdue **paldwoski_overdue_of(paldwosk_barrier *barrier, uint64_t task) {
+  struct paldwoski_overdue **place = &barrier->overdue;
   while (*place && (*place)->call.task != task) place = &(*place)->next;
   return place;
 }
 
 /* The time is over: the call goes on without its thread. There is room, since a task waits in one call at once. */
-PALDWOSK_INLINE void paldwosk_go_overdue(paldwosk_barrier *barrier, struct paldwosk_sleeper *me) {
-  struct paldwosk_overdue *it = barrier->spare;
+PALDWOSK_INLINE void paldwoski_go_overdue(paldwosk_barrier *barrier, struct paldwoski_sleeper *me) {
+  struct paldwoski_overdue *it = barrier->spare;
   barrier->spare = it->next;
   it->next = barrier->overdue;
   barrier->overdue = it;
-  paldwosk_replace(barrier, me, &it->call);
-  it->call.state = PALDWOSK_SPINNING; /* nobody has to be woken */
+  paldwoski_replace(barrier, me, &it->call);
+  it->call.state = PALDWOSKI_SPINNING; /* nobody has to be woken */
   it->call.is_parked = 0;
   me->is_parked = 0;
   me->answer = PALDWOSK_TIMED_OUT;
@@ -1079,8 +1097,8 @@ PALDWOSK_INLINE void paldwosk_go_overdue(paldwosk_barrier *barrier, struct paldw
 }
 
 /* The task's overdue call, if it has one, isn't overdue any more. */
-PALDWOSK_INLINE void paldwosk_end_overdue(paldwosk_barrier *barrier, uint64_t task) {
-  struct paldwosk_overdue **place = paldwosk_overdue_of(barrier, task), *it = *place;
+PALDWOSK_INLINE void paldwoski_end_overdue(paldwosk_barrier *barrier, uint64_t task) {
+  struct paldwoski_overdue **place = paldwoski_overdue_of(barrier, task), *it = *place;
   if (!it) return;
   *place = it->next;
   it->next = barrier->spare;
@@ -1088,30 +1106,30 @@ PALDWOSK_INLINE void paldwosk_end_overdue(paldwosk_barrier *barrier, uint64_t ta
 }
 
 /* A task calls that has an overdue call. If it is the same, the thread waits for it again, or has its answer. */
-PALDWOSK_APART void paldwosk_go_on_overdue(paldwosk_barrier *barrier, struct paldwosk_sleeper *me) {
-  struct paldwosk_sleeper *call = &(*paldwosk_overdue_of(barrier, me->task))->call;
+PALDWOSKI_APART void paldwoski_go_on_overdue(paldwosk_barrier *barrier, struct paldwoski_sleeper *me) {
+  struct paldwoski_sleeper *call = &(*paldwoski_overdue_of(barrier, me->task))->call;
   me->answer = PALDWOSK_NOT_NOW;
   if (me->call != call->call || me->single != call->single) return;
-  if (paldwosk_is_ready(call)) {
+  if (paldwoski_is_ready(call)) {
     *me = *call;
   } else {
-    paldwosk_replace(barrier, call, me);
-    paldwosk_set_parked(barrier, me);
+    paldwoski_replace(barrier, call, me);
+    paldwoski_set_parked(barrier, me);
   }
-  paldwosk_end_overdue(barrier, me->task);
+  paldwoski_end_overdue(barrier, me->task);
 }
 
-PALDWOSK_APART void paldwosk_report(paldwosk_barrier *barrier, struct paldwosk_sleeper *me) {
+PALDWOSKI_APART void paldwoski_report(paldwosk_barrier *barrier, struct paldwoski_sleeper *me) {
   paldwosk_freed freed[PALDWOSK_MOST_FREED];
   size_t count = 0;
   me->answer = phaser_c_waiting_single_done(&barrier->phaser, me->task, freed, PALDWOSK_MOST_FREED, &count);
-  if (me->answer == PALDWOSK_DONE && barrier->trace) paldwosk_trace_did(barrier->trace, me->task);
-  paldwosk_free_those(barrier, freed, count);
+  if (me->answer == PALDWOSK_DONE && barrier->trace) paldwoski_trace_did(barrier->trace, me->task);
+  paldwoski_free_those(barrier, freed, count);
 }
 
 /* The threads that are counted as inside have been woken, and only need a processor for a moment. If yielding doesn't
  * give them one, this thread sleeps: theirs may be of a lower priority. */
-PALDWOSK_INLINE void paldwosk_let_others_run(uint32_t tried) {
+PALDWOSK_INLINE void paldwoski_let_others_run(uint32_t tried) {
   int old = 0, kept = errno;
   if (tried < 100) {
     sched_yield();
@@ -1128,30 +1146,30 @@ PALDWOSK_INLINE void paldwosk_let_others_run(uint32_t tried) {
  * each call takes the lock. It says BUSY if the holder of the lock has the phaser; tasks come meanwhile. If it says
  * neither and the count is 0, the last to come has the phaser. */
 
-#ifdef PALDWOSK_IN_ROUNDS
+#ifdef PALDWOSKI_IN_ROUNDS
 
-#define PALDWOSK_SLOW (UINT64_C(1) << 63)
-#define PALDWOSK_BUSY (UINT64_C(1) << 62)
-#define PALDWOSK_STILL (PALDWOSK_SLOW | UINT64_C(1) << 31) /* late subtractions don't reach SLOW */
-#define PALDWOSK_NOBODY UINT64_MAX
+#define PALDWOSKI_SLOW (UINT64_C(1) << 63)
+#define PALDWOSKI_BUSY (UINT64_C(1) << 62)
+#define PALDWOSKI_STILL (PALDWOSKI_SLOW | UINT64_C(1) << 31) /* late subtractions don't reach SLOW */
+#define PALDWOSKI_NOBODY UINT64_MAX
 
 /* For so many level moments a barrier stays slow at most; and so many fast phases in a row make that 1 again. */
-enum { PALDWOSK_MOST_REST = 64 };
+enum { PALDWOSKI_MOST_REST = 64 };
 
 /* Waits for a thread that doesn't block. */
-PALDWOSK_INLINE void paldwosk_bide(uint32_t tried) {
-  if (tried < PALDWOSK_LOCK_TRIES) paldwosk_pause();
-  else paldwosk_let_others_run(tried - PALDWOSK_LOCK_TRIES);
+PALDWOSK_INLINE void paldwoski_bide(uint32_t tried) {
+  if (tried < PALDWOSKI_LOCK_TRIES) paldwoski_pause();
+  else paldwoski_let_others_run(tried - PALDWOSKI_LOCK_TRIES);
 }
 
 /* With the lock. */
-PALDWOSK_INLINE int paldwosk_is_slow(const paldwosk_barrier *barrier) {
-  return __atomic_load_n(&barrier->rounds->to_come, __ATOMIC_RELAXED) >= PALDWOSK_SLOW;
+PALDWOSK_INLINE int paldwoski_is_slow(const paldwosk_barrier *barrier) {
+  return __atomic_load_n(&barrier->rounds->to_come, __ATOMIC_RELAXED) >= PALDWOSKI_SLOW;
 }
 
 /* With the phaser: raises the turn, and the number of the rounds that are over by so many. The halves are raised apart:
  * no carry of the turn may end a round. */
-PALDWOSK_INLINE void paldwosk_raise(struct paldwosk_rounds *rounds, uint64_t over) {
+PALDWOSK_INLINE void paldwoski_raise(struct paldwoski_rounds *rounds, uint64_t over) {
   uint64_t whole = __atomic_load_n(&rounds->whole, __ATOMIC_RELAXED);
   __atomic_store_n(&rounds->whole, ((whole >> 32) + over) << 32 | (uint32_t)(whole + 1), __ATOMIC_SEQ_CST);
 }
@@ -1159,160 +1177,172 @@ PALDWOSK_INLINE void paldwosk_raise(struct paldwosk_rounds *rounds, uint64_t ove
 /* ---- Seats */
 
 /* The seat of a task; NULL if it has none, or isn't registered. */
-PALDWOSK_INLINE struct paldwosk_seat *paldwosk_seat_of(const paldwosk_task *task) {
-  struct paldwosk_seat *seat = &task->barrier->rounds->seats[task->seat % PALDWOSK_MOST_MEMBERS];
+PALDWOSK_INLINE struct paldwoski_seat *paldwoski_seat_of(const paldwosk_task *task) {
+  struct paldwoski_seat *seat = &task->barrier->rounds->seats[task->seat % PALDWOSKI_MOST_MEMBERS];
   return __atomic_load_n(&seat->task, __ATOMIC_RELAXED) == task->number ? seat : NULL;
 }
 
 /* Nobody is at it: its thread comes, or another claims it. */
-PALDWOSK_INLINE int paldwosk_pass_to_seat(struct paldwosk_seat *seat) {
-  uint32_t outside = PALDWOSK_OUTSIDE;
-  return __atomic_compare_exchange_n(&seat->inside, &outside, PALDWOSK_PASSING, 0, __ATOMIC_SEQ_CST, __ATOMIC_RELAXED);
+PALDWOSK_INLINE int paldwoski_pass_to_seat(struct paldwoski_seat *seat) {
+  uint32_t outside = PALDWOSKI_OUTSIDE;
+  return __atomic_compare_exchange_n(&seat->inside, &outside, PALDWOSKI_PASSING, 0, __ATOMIC_SEQ_CST, __ATOMIC_RELAXED);
 }
 
 /* The last that a thread does at its seat: it reads the barrier no more. */
-PALDWOSK_INLINE void paldwosk_leave_seat(struct paldwosk_seat *seat) {
-  __atomic_store_n(&seat->inside, PALDWOSK_OUTSIDE, __ATOMIC_RELEASE);
+PALDWOSK_INLINE void paldwoski_leave_seat(struct paldwoski_seat *seat) {
+  __atomic_store_n(&seat->inside, PALDWOSKI_OUTSIDE, __ATOMIC_RELEASE);
 }
 
+/* Here a test holds a thread. */
+#ifndef PALDWOSKI_BETWEEN_LOOKS
+#define PALDWOSKI_BETWEEN_LOOKS() ((void)0)
+#endif
+
 /* The seat of a task, to which its thread passes; NULL if the barrier is slow, or another is there. Whoever makes the
- * barrier slow says so before it looks who is at a seat. */
-PALDWOSK_INLINE struct paldwosk_seat *paldwosk_enter_seat(const paldwosk_task *task) {
-  struct paldwosk_rounds *rounds = task->barrier->rounds;
-  struct paldwosk_seat *seat = &rounds->seats[task->seat % PALDWOSK_MOST_MEMBERS];
-  if (__atomic_load_n(&rounds->is_slow, __ATOMIC_RELAXED) || !paldwosk_pass_to_seat(seat)) return NULL;
-  if (!__atomic_load_n(&rounds->is_slow, __ATOMIC_SEQ_CST) && paldwosk_seat_of(task)) return seat;
-  paldwosk_leave_seat(seat);
+ * barrier slow says so before it looks who is at a seat. So the thread looks again once it is there. */
+PALDWOSK_INLINE struct paldwoski_seat *paldwoski_enter_seat(const paldwosk_task *task) {
+  struct paldwoski_rounds *rounds = task->barrier->rounds;
+  struct paldwoski_seat *seat = &rounds->seats[task->seat % PALDWOSKI_MOST_MEMBERS];
+  if (__atomic_load_n(&rounds->is_slow, __ATOMIC_RELAXED)) return NULL;
+  PALDWOSKI_BETWEEN_LOOKS();
+  if (!paldwoski_pass_to_seat(seat)) return NULL;
+  if (!__atomic_load_n(&rounds->is_slow, __ATOMIC_SEQ_CST) && paldwoski_seat_of(task)) return seat;
+  paldwoski_leave_seat(seat);
   return NULL;
 }
 
 /* Whether a thread is at the seat of which the phaser isn't told: it passes, or a round has let it go just now. Such a
  * thread doesn't block. */
-PALDWOSK_INLINE int paldwosk_is_at_seat(const struct paldwosk_seat *seat) {
+PALDWOSK_INLINE int paldwoski_is_at_seat(const struct paldwoski_seat *seat) {
   uint32_t inside = __atomic_load_n(&seat->inside, __ATOMIC_SEQ_CST);
-  return inside == PALDWOSK_PASSING ||
-         (inside == PALDWOSK_SEATED && __atomic_load_n(&seat->came, __ATOMIC_ACQUIRE) != 0);
+  return inside == PALDWOSKI_PASSING ||
+         (inside == PALDWOSKI_SEATED && __atomic_load_n(&seat->came, __ATOMIC_ACQUIRE) != 0);
 }
 
 /* With the phaser, if nobody else touches the seat. */
-PALDWOSK_INLINE void paldwosk_tell_sends(paldwosk_barrier *barrier, struct paldwosk_seat *seat) {
+PALDWOSK_INLINE void paldwoski_tell_sends(paldwosk_barrier *barrier, struct paldwoski_seat *seat) {
   uint64_t task = __atomic_load_n(&seat->task, __ATOMIC_RELAXED);
   for (uint32_t at = 0; at < seat->sends; at++)
     (void)phaser_c_waiting_send(&barrier->phaser, task, seat->indices[at], seat->values[at]);
   if (seat->sends) seat->sends = 0;
 }
 
-PALDWOSK_INLINE uint64_t paldwosk_seat_bit(uint32_t place) { return UINT64_C(1) << place % 64; }
+PALDWOSK_INLINE uint64_t paldwoski_seat_bit(uint32_t place) { return UINT64_C(1) << place % 64; }
 
 /* A thread whose task has left may still wait at a seat. */
-PALDWOSK_INLINE int paldwosk_is_seat_free(const struct paldwosk_rounds *rounds, uint32_t place) {
-  if (rounds->used[place / 64] & paldwosk_seat_bit(place)) return 0;
-  return __atomic_load_n(&rounds->seats[place].inside, __ATOMIC_ACQUIRE) != PALDWOSK_SEATED;
+PALDWOSK_INLINE int paldwoski_is_seat_free(const struct paldwoski_rounds *rounds, uint32_t place) {
+  if (rounds->used[place / 64] & paldwoski_seat_bit(place)) return 0;
+  return __atomic_load_n(&rounds->seats[place].inside, __ATOMIC_ACQUIRE) != PALDWOSKI_SEATED;
 }
 
 /* With the lock: a seat for a new task; NO_SEAT if there is none. */
-PALDWOSK_INLINE uint32_t paldwosk_free_place(const struct paldwosk_rounds *rounds) {
+PALDWOSK_INLINE uint32_t paldwoski_free_place(const struct paldwoski_rounds *rounds) {
   uint32_t place = 0;
-  while (place < PALDWOSK_NO_SEAT && !paldwosk_is_seat_free(rounds, place)) place++;
+  while (place < PALDWOSKI_NO_SEAT && !paldwoski_is_seat_free(rounds, place)) place++;
   return place;
 }
 
-PALDWOSK_INLINE void paldwosk_prepare_seat(struct paldwosk_rounds *rounds, uint32_t place, uint64_t number) {
-  struct paldwosk_seat *seat = &rounds->seats[place];
-  rounds->used[place / 64] |= paldwosk_seat_bit(place);
-  seat->call = paldwosk_new_sleeper(number, PALDWOSK_CALL_NEXT, 0);
+PALDWOSK_INLINE void paldwoski_prepare_seat(struct paldwoski_rounds *rounds, uint32_t place, uint64_t number) {
+  struct paldwoski_seat *seat = &rounds->seats[place];
+  rounds->used[place / 64] |= paldwoski_seat_bit(place);
+  seat->call = paldwoski_new_sleeper(number, PALDWOSKI_CALL_NEXT, 0);
   seat->call.is_in_round = 1;
   seat->sends = 0;
-  seat->tries.waits = place % PALDWOSK_PROBE_AFTER; /* so that not all try in one phase whether it is good to spin */
-  seat->tries.probe = PALDWOSK_PROBE_AFTER;
+  seat->tries.waits = place % PALDWOSKI_PROBE_AFTER; /* so that not all try in one phase whether it is good to spin */
+  seat->tries.probe = PALDWOSKI_PROBE_AFTER;
   __atomic_store_n(&seat->came, 0, __ATOMIC_RELAXED);
   __atomic_store_n(&seat->phase, rounds->phase, __ATOMIC_RELAXED);
   __atomic_store_n(&seat->task, number, __ATOMIC_RELEASE);
 }
 
 /* With the phaser: a seat for a task that is registered now and counted. If there is none, the barrier is slow. */
-PALDWOSK_INLINE uint32_t paldwosk_add_seat(paldwosk_barrier *barrier, uint64_t number) {
-  struct paldwosk_rounds *rounds = barrier->rounds;
-  uint32_t place = paldwosk_free_place(rounds), at = barrier->tasks - 1;
+PALDWOSK_INLINE uint32_t paldwoski_add_seat(paldwosk_barrier *barrier, uint64_t number) {
+  struct paldwoski_rounds *rounds = barrier->rounds;
+  uint32_t place = paldwoski_free_place(rounds), at = barrier->tasks - 1;
   rounds->tasks[at] = number;
   rounds->places[at] = (uint16_t)place;
-  if (place == PALDWOSK_NO_SEAT) barrier->uneven++;
-  else paldwosk_prepare_seat(rounds, place, number);
-  if (!paldwosk_is_slow(barrier)) __atomic_fetch_add(&rounds->to_come, 1, __ATOMIC_SEQ_CST);
+  if (place == PALDWOSKI_NO_SEAT) barrier->uneven++;
+  else paldwoski_prepare_seat(rounds, place, number);
+  if (!paldwoski_is_slow(barrier)) __atomic_fetch_add(&rounds->to_come, 1, __ATOMIC_SEQ_CST);
   return place;
 }
 
-PALDWOSK_INLINE void paldwosk_clear_seat(struct paldwosk_rounds *rounds, uint32_t place) {
-  rounds->used[place / 64] &= ~paldwosk_seat_bit(place);
-  __atomic_store_n(&rounds->seats[place].task, PALDWOSK_NOBODY, __ATOMIC_RELEASE);
+PALDWOSK_INLINE void paldwoski_clear_seat(struct paldwoski_rounds *rounds, uint32_t place) {
+  rounds->used[place / 64] &= ~paldwoski_seat_bit(place);
+  __atomic_store_n(&rounds->seats[place].task, PALDWOSKI_NOBODY, __ATOMIC_RELEASE);
 }
 
 /* With the phaser: the same for a task that has left, while it is counted. */
-PALDWOSK_INLINE void paldwosk_remove_seat(paldwosk_barrier *barrier, uint64_t number) {
-  struct paldwosk_rounds *rounds = barrier->rounds;
+PALDWOSK_INLINE void paldwoski_remove_seat(paldwosk_barrier *barrier, uint64_t number) {
+  struct paldwoski_rounds *rounds = barrier->rounds;
   uint32_t at = 0, last = barrier->tasks - 1;
   while (rounds->tasks[at] != number) at++;
   uint32_t place = rounds->places[at];
   rounds->tasks[at] = rounds->tasks[last];
   rounds->places[at] = rounds->places[last];
-  if (place == PALDWOSK_NO_SEAT) barrier->uneven--;
-  else paldwosk_clear_seat(rounds, place);
-  if (!paldwosk_is_slow(barrier)) __atomic_fetch_sub(&rounds->to_come, 1, __ATOMIC_SEQ_CST);
+  if (place == PALDWOSKI_NO_SEAT) barrier->uneven--;
+  else paldwoski_clear_seat(rounds, place);
+  if (!paldwoski_is_slow(barrier)) __atomic_fetch_sub(&rounds->to_come, 1, __ATOMIC_SEQ_CST);
 }
 
-PALDWOSK_INLINE int paldwosk_are_seats_left(const paldwosk_barrier *barrier) {
+PALDWOSK_INLINE int paldwoski_are_seats_left(const paldwosk_barrier *barrier) {
   uint32_t place = 0;
-  while (place < PALDWOSK_MOST_MEMBERS &&
-         __atomic_load_n(&barrier->rounds->seats[place].inside, __ATOMIC_ACQUIRE) == PALDWOSK_OUTSIDE)
+  while (place < PALDWOSKI_MOST_MEMBERS &&
+         __atomic_load_n(&barrier->rounds->seats[place].inside, __ATOMIC_ACQUIRE) == PALDWOSKI_OUTSIDE)
     place++;
-  return place == PALDWOSK_MOST_MEMBERS;
+  return place == PALDWOSKI_MOST_MEMBERS;
 }
 
 /* With the lock: whether a task has come, and waits for others. */
-PALDWOSK_INLINE int paldwosk_has_come(const paldwosk_barrier *barrier) {
+PALDWOSK_INLINE int paldwoski_has_come(const paldwosk_barrier *barrier) {
   uint64_t word = __atomic_load_n(&barrier->rounds->to_come, __ATOMIC_ACQUIRE);
-  return word < PALDWOSK_SLOW && (uint32_t)word != barrier->tasks;
+  return word < PALDWOSKI_SLOW && (uint32_t)word != barrier->tasks;
 }
 
 /* ---- From fast to slow. The phaser is told of those who have come; they stay where they wait. */
 
-PALDWOSK_INLINE void paldwosk_set_members(paldwosk_barrier *barrier, uint64_t phase) {
-  for (size_t at = 0; at < PALDWOSK_MEMBER_PLACES; at++)
+PALDWOSK_INLINE void paldwoski_set_members(paldwosk_barrier *barrier, uint64_t phase) {
+  for (size_t at = 0; at < PALDWOSKI_MEMBER_PLACES; at++)
     if (barrier->members[at].is_there) barrier->members[at].passes = phase & (UINT64_MAX >> 4);
 }
 
 /* A barrier that is made slow soon after it has become fast stays so for twice as long. */
-PALDWOSK_INLINE void paldwosk_say_slow(paldwosk_barrier *barrier) {
-  struct paldwosk_rounds *rounds = barrier->rounds;
-  if (rounds->phase - rounds->fast_since >= PALDWOSK_MOST_REST) barrier->rest = 1;
-  else if (barrier->rest < PALDWOSK_MOST_REST) barrier->rest *= 2;
+PALDWOSK_INLINE void paldwoski_say_slow(paldwosk_barrier *barrier) {
+  struct paldwoski_rounds *rounds = barrier->rounds;
+  if (rounds->phase - rounds->fast_since >= PALDWOSKI_MOST_REST) barrier->rest = 1;
+  else if (barrier->rest < PALDWOSKI_MOST_REST) barrier->rest *= 2;
   barrier->rest_left = barrier->rest;
-  paldwosk_set_members(barrier, rounds->phase);
+  paldwoski_set_members(barrier, rounds->phase);
   __atomic_store_n(&rounds->is_slow, 1, __ATOMIC_SEQ_CST);
 }
 
 /* Whether the task at the seat has come in this phase, and the phaser isn't told. */
-PALDWOSK_INLINE int paldwosk_has_come_to(const struct paldwosk_rounds *rounds, uint32_t place) {
-  return place != PALDWOSK_NO_SEAT &&
+PALDWOSK_INLINE int paldwoski_has_come_to(const struct paldwoski_rounds *rounds, uint32_t place) {
+  return place != PALDWOSKI_NO_SEAT &&
          __atomic_load_n(&rounds->seats[place].came, __ATOMIC_ACQUIRE) == rounds->phase + 1;
 }
 
+/* Waits until the seat of a task that is counted as come says so. */
+PALDWOSK_INLINE void paldwoski_await_seat(const struct paldwoski_rounds *rounds, uint32_t place) {
+  for (uint32_t tried = 0; !paldwoski_has_come_to(rounds, place); tried++) paldwoski_bide(tried);
+}
+
 /* Has the phaser make the call of a task that has come: its next, or its pass if its signal is made. */
-PALDWOSK_INLINE void paldwosk_tell_coming(paldwosk_barrier *barrier, struct paldwosk_seat *seat, uint32_t call) {
+PALDWOSK_INLINE void paldwoski_tell_coming(paldwosk_barrier *barrier, struct paldwoski_seat *seat, uint32_t call) {
   __atomic_store_n(&seat->came, 0, __ATOMIC_RELEASE);
   seat->call.call = call;
-  paldwosk_tell_sends(barrier, seat);
-  paldwosk_ask_for(barrier, &seat->call);
+  paldwoski_tell_sends(barrier, seat);
+  paldwoski_ask_for(barrier, &seat->call);
 }
 
 /* Of those whose seats say by now that they have come. How many there are. */
-PALDWOSK_INLINE uint32_t paldwosk_tell_who_came(paldwosk_barrier *barrier) {
-  struct paldwosk_rounds *rounds = barrier->rounds;
+PALDWOSK_INLINE uint32_t paldwoski_tell_who_came(paldwosk_barrier *barrier) {
+  struct paldwoski_rounds *rounds = barrier->rounds;
   uint32_t told = 0;
   for (uint32_t at = 0; at < barrier->tasks; at++) {
     uint32_t place = rounds->places[at];
-    if (!paldwosk_has_come_to(rounds, place)) continue;
-    paldwosk_tell_coming(barrier, &rounds->seats[place], PALDWOSK_CALL_NEXT);
+    if (!paldwoski_has_come_to(rounds, place)) continue;
+    paldwoski_tell_coming(barrier, &rounds->seats[place], PALDWOSKI_CALL_NEXT);
     told++;
   }
   return told;
@@ -1320,21 +1350,21 @@ PALDWOSK_INLINE uint32_t paldwosk_tell_who_came(paldwosk_barrier *barrier) {
 
 /* With the lock and BUSY, unless all have come. The word says how many have come. Each of these says so at its seat
  * right after it has taken 1 from the count. */
-PALDWOSK_INLINE int paldwosk_stop_rounds(paldwosk_barrier *barrier) {
+PALDWOSK_INLINE int paldwoski_stop_rounds(paldwosk_barrier *barrier) {
   uint64_t *to_come = &barrier->rounds->to_come, word = __atomic_load_n(to_come, __ATOMIC_RELAXED);
   do {
     if (!(uint32_t)word) return 0;
-  } while (!__atomic_compare_exchange_n(to_come, &word, PALDWOSK_STILL, 0, __ATOMIC_SEQ_CST, __ATOMIC_RELAXED));
-  paldwosk_say_slow(barrier);
+  } while (!__atomic_compare_exchange_n(to_come, &word, PALDWOSKI_STILL, 0, __ATOMIC_SEQ_CST, __ATOMIC_RELAXED));
+  paldwoski_say_slow(barrier);
   uint32_t untold = barrier->tasks - (uint32_t)word;
-  for (uint32_t tried = 0; (untold -= paldwosk_tell_who_came(barrier)) != 0; tried++) paldwosk_bide(tried);
+  for (uint32_t tried = 0; (untold -= paldwoski_tell_who_came(barrier)) != 0; tried++) paldwoski_bide(tried);
   return 1;
 }
 
 /* ---- The end of a round */
 
-PALDWOSK_INLINE size_t paldwosk_take_sends(struct paldwosk_rounds *rounds, uint32_t place, size_t count) {
-  struct paldwosk_seat *seat = &rounds->seats[place];
+PALDWOSK_INLINE size_t paldwoski_take_sends(struct paldwoski_rounds *rounds, uint32_t place, size_t count) {
+  struct paldwoski_seat *seat = &rounds->seats[place];
   uint64_t task = __atomic_load_n(&seat->task, __ATOMIC_RELAXED);
   for (uint32_t at = 0; at < seat->sends; at++) {
     paldwosk_given_send send = {task, seat->values[at], seat->indices[at]};
@@ -1344,107 +1374,108 @@ PALDWOSK_INLINE size_t paldwosk_take_sends(struct paldwosk_rounds *rounds, uint3
   return count;
 }
 
-PALDWOSK_INLINE size_t paldwosk_take_sends_of(struct paldwosk_rounds *rounds, uint32_t word, size_t count) {
+PALDWOSK_INLINE size_t paldwoski_take_sends_of(struct paldwoski_rounds *rounds, uint32_t word, size_t count) {
   if (!__atomic_load_n(&rounds->have_sent[word], __ATOMIC_RELAXED)) return count;
   uint64_t bits = __atomic_exchange_n(&rounds->have_sent[word], 0, __ATOMIC_RELAXED);
-  for (; bits; bits &= bits - 1) count = paldwosk_take_sends(rounds, 64 * word + (uint32_t)__builtin_ctzll(bits), count);
+  for (; bits; bits &= bits - 1) count = paldwoski_take_sends(rounds, 64 * word + (uint32_t)__builtin_ctzll(bits), count);
   return count;
 }
 
 /* What a look at each accumulator is answered in the next phase, if any task looks at it. */
-PALDWOSK_INLINE void paldwosk_publish_folds(paldwosk_barrier *barrier) {
-  struct paldwosk_rounds *rounds = barrier->rounds;
+PALDWOSK_INLINE void paldwoski_publish_folds(paldwosk_barrier *barrier) {
+  struct paldwoski_rounds *rounds = barrier->rounds;
   for (uint32_t bits = rounds->wanted; bits; bits &= bits - 1) {
     uint8_t index = (uint8_t)__builtin_ctz(bits);
-    struct paldwosk_fold *fold = &rounds->folds[index];
+    struct paldwoski_fold *fold = &rounds->folds[index];
     fold->answer = phaser_c_waiting_look(&barrier->phaser, rounds->tasks[0], index, &fold->value);
     fold->phase = rounds->phase + 1;
   }
 }
 
 /* Whether a look was answered so. */
-PALDWOSK_INLINE int paldwosk_is_fold(uint32_t answer) {
+PALDWOSK_INLINE int paldwoski_is_fold(uint32_t answer) {
   return answer == PALDWOSK_DONE || answer == PALDWOSK_NOTHING || answer == PALDWOSK_TOO_GREAT;
 }
 
 /* The round wasn't made as a whole. Before the call `refused` all were made: the sends, a signal of each task but the
  * first, a signal and a pass of the first, and the passes of the others. Tells the task of this place what is its. */
-PALDWOSK_INLINE void paldwosk_tell_task(paldwosk_barrier *barrier, uint32_t at, size_t sends, size_t refused) {
-  struct paldwosk_rounds *rounds = barrier->rounds;
-  struct paldwosk_seat *seat = &rounds->seats[rounds->places[at]];
+PALDWOSK_INLINE void paldwoski_tell_task(paldwosk_barrier *barrier, uint32_t at, size_t sends, size_t refused) {
+  struct paldwoski_rounds *rounds = barrier->rounds;
+  struct paldwoski_seat *seat = &rounds->seats[rounds->places[at]];
   size_t signal = sends + (at ? at : barrier->tasks) - 1, pass = sends + barrier->tasks + at;
-  for (uint32_t tried = 0; !paldwosk_has_come_to(rounds, rounds->places[at]); tried++) paldwosk_bide(tried);
   if (pass >= refused) {
-    paldwosk_tell_coming(barrier, seat, signal < refused ? PALDWOSK_CALL_WAIT : PALDWOSK_CALL_NEXT);
+    paldwoski_tell_coming(barrier, seat, signal < refused ? PALDWOSKI_CALL_WAIT : PALDWOSKI_CALL_NEXT);
   } else {
     __atomic_store_n(&seat->came, 0, __ATOMIC_RELEASE);
-    paldwosk_go_on(barrier, &seat->call, PALDWOSK_DONE, rounds->phase);
+    paldwoski_go_on(barrier, &seat->call, PALDWOSK_DONE, rounds->phase);
   }
 }
 
 /* Tells the phaser each call by itself that it hasn't made, and makes the barrier slow. A history that is full comes to
  * this, after 2^62 events. */
-PALDWOSK_APART void paldwosk_end_round_singly(paldwosk_barrier *barrier, size_t sends, size_t made) {
-  struct paldwosk_rounds *rounds = barrier->rounds;
+PALDWOSKI_APART void paldwoski_end_round_singly(paldwosk_barrier *barrier, size_t sends, size_t made) {
+  struct paldwoski_rounds *rounds = barrier->rounds;
   size_t refused = made ? made - 1 : 0;
-  paldwosk_say_slow(barrier);
+  paldwoski_say_slow(barrier);
   for (size_t at = refused; at < sends; at++)
     (void)phaser_c_waiting_send(&barrier->phaser, rounds->sends[at].task, rounds->sends[at].accumulator,
                                 rounds->sends[at].value);
-  for (uint32_t at = 0; at < barrier->tasks; at++) paldwosk_tell_task(barrier, at, sends, refused);
+  for (uint32_t at = 0; at < barrier->tasks; at++) paldwoski_tell_task(barrier, at, sends, refused);
   barrier->to_wake = 0;
-  paldwosk_raise(rounds, 0);
-  __atomic_store_n(&rounds->to_come, PALDWOSK_STILL, __ATOMIC_SEQ_CST);
-  paldwosk_futex(paldwosk_turn_word(barrier), 1, INT_MAX, UINT32_MAX);
+  paldwoski_raise(rounds, 0);
+  __atomic_store_n(&rounds->to_come, PALDWOSKI_STILL, __ATOMIC_SEQ_CST);
+  paldwoski_futex(paldwoski_turn_word(barrier), 1, INT_MAX, UINT32_MAX);
 }
 
-/* All have come: the phaser makes the phase, and then the others are let go. The count is set before: a task that is let
- * go may come at once. */
-PALDWOSK_APART void paldwosk_end_round(paldwosk_barrier *barrier) {
-  struct paldwosk_rounds *rounds = barrier->rounds;
+/* All have come, as the count says, and each seat says so too: so a slip of the count may hold all up, but lets no task go
+ * on before another has come. The phaser makes the phase, and then the others are let go. The count is set before: a task
+ * that is let go may come at once. */
+PALDWOSKI_APART void paldwoski_end_round(paldwosk_barrier *barrier) {
+  struct paldwoski_rounds *rounds = barrier->rounds;
   uint32_t tasks = barrier->tasks;
   size_t sends = 0, made = 0;
-  for (uint32_t word = 0; word < PALDWOSK_SEAT_WORDS; word++) sends = paldwosk_take_sends_of(rounds, word, sends);
+  for (uint32_t at = 0; at < tasks; at++) paldwoski_await_seat(rounds, rounds->places[at]);
+  for (uint32_t word = 0; word < PALDWOSKI_SEAT_WORDS; word++) sends = paldwoski_take_sends_of(rounds, word, sends);
   if (phaser_c_waiting_round(&barrier->phaser, rounds->sends, sends, rounds->tasks, tasks, rounds->phase, &made) !=
       PALDWOSK_DONE) {
-    paldwosk_end_round_singly(barrier, sends, made);
+    paldwoski_end_round_singly(barrier, sends, made);
     return;
   }
-  paldwosk_publish_folds(barrier);
+  paldwoski_publish_folds(barrier);
   rounds->phase++;
   rounds->ended++;
   __atomic_store_n(&rounds->to_come, tasks, __ATOMIC_RELEASE);
-  paldwosk_raise(rounds, 1);
+  paldwoski_raise(rounds, 1);
   if (__atomic_load_n(&rounds->sleepers, __ATOMIC_SEQ_CST))
-    paldwosk_futex(paldwosk_turn_word(barrier), 1, INT_MAX, UINT32_MAX);
+    paldwoski_futex(paldwoski_turn_word(barrier), 1, INT_MAX, UINT32_MAX);
 }
 
 /* ---- From slow to fast */
 
 /* Whether the tasks may stand level, as far as the header knows; the phaser is asked then. */
-PALDWOSK_INLINE int paldwosk_may_be_level(const paldwosk_barrier *barrier) {
+PALDWOSK_INLINE int paldwoski_may_be_level(const paldwosk_barrier *barrier) {
   return !barrier->first && !barrier->overdue && !barrier->coming && !barrier->uneven && barrier->tasks &&
          !barrier->trace && !barrier->watch;
 }
 
-PALDWOSK_INLINE void paldwosk_set_seats(paldwosk_barrier *barrier, uint64_t phase) {
-  struct paldwosk_rounds *rounds = barrier->rounds;
+PALDWOSK_INLINE void paldwoski_set_seats(paldwosk_barrier *barrier, uint64_t phase) {
+  struct paldwoski_rounds *rounds = barrier->rounds;
   for (uint32_t at = 0; at < barrier->tasks; at++)
     __atomic_store_n(&rounds->seats[rounds->places[at]].phase, phase, __ATOMIC_RELAXED);
 }
 
 /* With the lock, at a slow barrier: makes it fast if all stand level, and have often enough. */
-PALDWOSK_INLINE int paldwosk_begin_rounds(paldwosk_barrier *barrier) {
-  struct paldwosk_rounds *rounds = barrier->rounds;
+PALDWOSK_INLINE int paldwoski_begin_rounds(paldwosk_barrier *barrier) {
+  struct paldwoski_rounds *rounds = barrier->rounds;
   uint64_t phase = 0;
-  if (!paldwosk_may_be_level(barrier)) return 0;
+  if (!paldwoski_may_be_level(barrier)) return 0;
   if (barrier->rest_left > 1) {
     barrier->rest_left--;
     return 0;
   }
   if (phaser_c_waiting_level(&barrier->phaser, rounds->tasks, barrier->tasks, &phase) != PALDWOSK_DONE) return 0;
   rounds->phase = rounds->fast_since = phase;
-  paldwosk_set_seats(barrier, phase);
+  paldwoski_set_seats(barrier, phase);
   __atomic_store_n(&rounds->is_slow, 0, __ATOMIC_SEQ_CST);
   __atomic_store_n(&rounds->to_come, barrier->tasks, __ATOMIC_SEQ_CST);
   return 1;
@@ -1453,11 +1484,11 @@ PALDWOSK_INLINE int paldwosk_begin_rounds(paldwosk_barrier *barrier) {
 /* ---- The phaser, for the holder of the lock */
 
 /* At a fast barrier the word says BUSY after it. If all have come, the last has the phaser until it sets the count. */
-PALDWOSK_INLINE void paldwosk_take_word(paldwosk_barrier *barrier) {
+PALDWOSK_INLINE void paldwoski_take_word(paldwosk_barrier *barrier) {
   uint64_t *to_come = &barrier->rounds->to_come, word = __atomic_load_n(to_come, __ATOMIC_ACQUIRE);
-  for (uint32_t tried = 0; word < PALDWOSK_SLOW; tried++) {
-    if (!(uint32_t)word) paldwosk_bide(tried);
-    else if (__atomic_compare_exchange_n(to_come, &word, word | PALDWOSK_BUSY, 0, __ATOMIC_SEQ_CST, __ATOMIC_RELAXED))
+  for (uint32_t tried = 0; word < PALDWOSKI_SLOW; tried++) {
+    if (!(uint32_t)word) paldwoski_bide(tried);
+    else if (__atomic_compare_exchange_n(to_come, &word, word | PALDWOSKI_BUSY, 0, __ATOMIC_SEQ_CST, __ATOMIC_RELAXED))
       return;
     word = __atomic_load_n(to_come, __ATOMIC_ACQUIRE);
   }
@@ -1465,237 +1496,237 @@ PALDWOSK_INLINE void paldwosk_take_word(paldwosk_barrier *barrier) {
 
 /* The same, and all tasks of a round that is over have been let go: else a new task could come, and be let go with them.
  * Whoever made the barrier slow has waited for that. */
-PALDWOSK_INLINE void paldwosk_take_phaser(paldwosk_barrier *barrier) {
-  const struct paldwosk_rounds *rounds = barrier->rounds;
-  paldwosk_take_word(barrier);
-  if (paldwosk_is_slow(barrier)) return;
+PALDWOSK_INLINE void paldwoski_take_phaser(paldwosk_barrier *barrier) {
+  const struct paldwoski_rounds *rounds = barrier->rounds;
+  paldwoski_take_word(barrier);
+  if (paldwoski_is_slow(barrier)) return;
   for (uint32_t tried = 0; __atomic_load_n(&rounds->whole, __ATOMIC_ACQUIRE) >> 32 != rounds->ended; tried++)
-    paldwosk_bide(tried);
+    paldwoski_bide(tried);
 }
 
 /* The last may have come meanwhile, or who was missing has left: then this thread ends the round. */
-PALDWOSK_INLINE void paldwosk_give_phaser_back(paldwosk_barrier *barrier) {
-  struct paldwosk_rounds *rounds = barrier->rounds;
+PALDWOSK_INLINE void paldwoski_give_phaser_back(paldwosk_barrier *barrier) {
+  struct paldwoski_rounds *rounds = barrier->rounds;
   uint64_t word = __atomic_load_n(&rounds->to_come, __ATOMIC_RELAXED);
-  if (word < PALDWOSK_SLOW) {
-    if (rounds->claimed) paldwosk_leave_seat(rounds->claimed);
+  if (word < PALDWOSKI_SLOW) {
+    if (rounds->claimed) paldwoski_leave_seat(rounds->claimed);
     rounds->claimed = NULL;
-    word = __atomic_fetch_and(&rounds->to_come, ~PALDWOSK_BUSY, __ATOMIC_SEQ_CST);
-    if (!(uint32_t)word) paldwosk_end_round(barrier);
-  } else if (!paldwosk_begin_rounds(barrier) && word != PALDWOSK_STILL) {
-    __atomic_store_n(&rounds->to_come, PALDWOSK_STILL, __ATOMIC_RELAXED);
+    word = __atomic_fetch_and(&rounds->to_come, ~PALDWOSKI_BUSY, __ATOMIC_SEQ_CST);
+    if (!(uint32_t)word) paldwoski_end_round(barrier);
+  } else if (!paldwoski_begin_rounds(barrier) && word != PALDWOSKI_STILL) {
+    __atomic_store_n(&rounds->to_come, PALDWOSKI_STILL, __ATOMIC_RELAXED);
   }
 }
 
 /* With the phaser: makes the barrier slow. */
-PALDWOSK_INLINE void paldwosk_go_slow(paldwosk_barrier *barrier) {
-  while (!paldwosk_is_slow(barrier) && !paldwosk_stop_rounds(barrier)) {
-    paldwosk_give_phaser_back(barrier);
-    paldwosk_take_phaser(barrier);
+PALDWOSK_INLINE void paldwoski_go_slow(paldwosk_barrier *barrier) {
+  while (!paldwoski_is_slow(barrier) && !paldwoski_stop_rounds(barrier)) {
+    paldwoski_give_phaser_back(barrier);
+    paldwoski_take_phaser(barrier);
   }
 }
 
 /* With the phaser: makes the barrier slow, for a call of this task. After it no thread touches the task's seat, until
  * the lock is given back. */
-PALDWOSK_INLINE void paldwosk_settle(const paldwosk_task *task) {
-  paldwosk_go_slow(task->barrier);
-  struct paldwosk_seat *seat = paldwosk_seat_of(task);
+PALDWOSK_INLINE void paldwoski_settle(const paldwosk_task *task) {
+  paldwoski_go_slow(task->barrier);
+  struct paldwoski_seat *seat = paldwoski_seat_of(task);
   if (!seat) return;
-  for (uint32_t tried = 0; paldwosk_is_at_seat(seat); tried++) paldwosk_bide(tried);
-  paldwosk_tell_sends(task->barrier, seat);
+  for (uint32_t tried = 0; paldwoski_is_at_seat(seat); tried++) paldwoski_bide(tried);
+  paldwoski_tell_sends(task->barrier, seat);
 }
 
 /* The same, but the barrier stays fast if nobody is at the seat. */
-PALDWOSK_INLINE void paldwosk_claim(const paldwosk_task *task) {
-  struct paldwosk_seat *seat = paldwosk_seat_of(task);
+PALDWOSK_INLINE void paldwoski_claim(const paldwosk_task *task) {
+  struct paldwoski_seat *seat = paldwoski_seat_of(task);
   if (!seat) return;
-  if (paldwosk_is_slow(task->barrier) || !paldwosk_pass_to_seat(seat)) {
-    paldwosk_settle(task);
+  if (paldwoski_is_slow(task->barrier) || !paldwoski_pass_to_seat(seat)) {
+    paldwoski_settle(task);
     return;
   }
   task->barrier->rounds->claimed = seat;
-  paldwosk_tell_sends(task->barrier, seat);
+  paldwoski_tell_sends(task->barrier, seat);
 }
 
-PALDWOSK_INLINE void paldwosk_claim_to_join(const paldwosk_task *parent, uint32_t mode) {
+PALDWOSK_INLINE void paldwoski_claim_to_join(const paldwosk_task *parent, uint32_t mode) {
   paldwosk_barrier *barrier = parent->barrier;
-  if (mode != PALDWOSK_SIG_WAIT || paldwosk_free_place(barrier->rounds) == PALDWOSK_NO_SEAT) paldwosk_go_slow(barrier);
-  paldwosk_claim(parent);
+  if (mode != PALDWOSK_SIG_WAIT || paldwoski_free_place(barrier->rounds) == PALDWOSKI_NO_SEAT) paldwoski_go_slow(barrier);
+  paldwoski_claim(parent);
 }
 
-PALDWOSK_INLINE void paldwosk_claim_to_leave(const paldwosk_task *task) {
-  if (task->barrier->tasks == 1) paldwosk_go_slow(task->barrier); /* no round is made of no tasks */
-  paldwosk_claim(task);
+PALDWOSK_INLINE void paldwoski_claim_to_leave(const paldwosk_task *task) {
+  if (task->barrier->tasks == 1) paldwoski_go_slow(task->barrier); /* no round is made of no tasks */
+  paldwoski_claim(task);
 }
 
 /* ---- What a task does at its seat, without the lock */
 
 /* Whether the seat keeps the value until its task comes. */
-PALDWOSK_INLINE int paldwosk_keep_send(const paldwosk_task *task, uint8_t index, int32_t value) {
-  struct paldwosk_seat *seat = index < task->barrier->accumulators ? paldwosk_enter_seat(task) : NULL;
+PALDWOSK_INLINE int paldwoski_keep_send(const paldwosk_task *task, uint8_t index, int32_t value) {
+  struct paldwoski_seat *seat = index < task->barrier->accumulators ? paldwoski_enter_seat(task) : NULL;
   if (!seat) return 0;
-  int has_room = seat->sends < PALDWOSK_MOST_KEPT;
+  int has_room = seat->sends < PALDWOSKI_MOST_KEPT;
   if (has_room) {
     seat->values[seat->sends] = value;
     seat->indices[seat->sends++] = index;
   }
-  paldwosk_leave_seat(seat);
+  paldwoski_leave_seat(seat);
   return has_room;
 }
 
 /* Whether the fold of the last phase stands there; then the look is answered by it. */
-PALDWOSK_INLINE int paldwosk_look_at_fold(const paldwosk_task *task, uint8_t index, int64_t *value,
-                                          paldwosk_answer *answer) {
-  struct paldwosk_seat *seat = index < task->barrier->accumulators ? paldwosk_enter_seat(task) : NULL;
+PALDWOSK_INLINE int paldwoski_look_at_fold(const paldwosk_task *task, uint8_t index, int64_t *value,
+                                           paldwosk_answer *answer) {
+  struct paldwoski_seat *seat = index < task->barrier->accumulators ? paldwoski_enter_seat(task) : NULL;
   if (!seat) return 0;
-  const struct paldwosk_fold *fold = &task->barrier->rounds->folds[index];
+  const struct paldwoski_fold *fold = &task->barrier->rounds->folds[index];
   int is_there = fold->phase == __atomic_load_n(&seat->phase, __ATOMIC_RELAXED);
   if (is_there) *answer = (paldwosk_answer)fold->answer;
   if (is_there && fold->answer == PALDWOSK_DONE) *value = fold->value;
-  paldwosk_leave_seat(seat);
+  paldwoski_leave_seat(seat);
   return is_there;
 }
 
 /* With the phaser, after a look that was answered so: from the next round on its fold stands there. */
-PALDWOSK_INLINE void paldwosk_want_fold(paldwosk_barrier *barrier, uint8_t index, uint32_t answer) {
-  if (paldwosk_is_fold(answer)) barrier->rounds->wanted |= UINT32_C(1) << index;
+PALDWOSK_INLINE void paldwoski_want_fold(paldwosk_barrier *barrier, uint8_t index, uint32_t answer) {
+  if (paldwoski_is_fold(answer)) barrier->rounds->wanted |= UINT32_C(1) << index;
 }
 
-PALDWOSK_INLINE void paldwosk_say_sends(struct paldwosk_rounds *rounds, const struct paldwosk_seat *seat) {
+PALDWOSK_INLINE void paldwoski_say_sends(struct paldwoski_rounds *rounds, const struct paldwoski_seat *seat) {
   uint32_t place = (uint32_t)(seat - rounds->seats);
-  __atomic_fetch_or(&rounds->have_sent[place / 64], paldwosk_seat_bit(place), __ATOMIC_RELAXED);
+  __atomic_fetch_or(&rounds->have_sent[place / 64], paldwoski_seat_bit(place), __ATOMIC_RELAXED);
 }
 
 /* The task comes, unless the barrier is slow by now. Its seat says so after the count does: else it might count as come,
  * and come in the next phase. */
-PALDWOSK_INLINE int paldwosk_come(paldwosk_barrier *barrier, struct paldwosk_seat *seat) {
-  struct paldwosk_rounds *rounds = barrier->rounds;
+PALDWOSK_INLINE int paldwoski_come(paldwosk_barrier *barrier, struct paldwoski_seat *seat) {
+  struct paldwoski_rounds *rounds = barrier->rounds;
   uint64_t phase = __atomic_load_n(&seat->phase, __ATOMIC_RELAXED);
   seat->call.turn = __atomic_load_n(&rounds->whole, __ATOMIC_ACQUIRE);
-  if (seat->sends) paldwosk_say_sends(rounds, seat);
+  if (seat->sends) paldwoski_say_sends(rounds, seat);
   uint64_t word = __atomic_fetch_sub(&rounds->to_come, 1, __ATOMIC_SEQ_CST);
-  if (word >= PALDWOSK_SLOW) return 0;
+  if (word >= PALDWOSKI_SLOW) return 0;
   __atomic_store_n(&seat->came, phase + 1, __ATOMIC_RELEASE);
-  if (word == 1) paldwosk_end_round(barrier);
+  if (word == 1) paldwoski_end_round(barrier);
   return 1;
 }
 
 /* The call may be over at once, and is for the last to come. */
-PALDWOSK_INLINE void paldwosk_wait_at_seat(paldwosk_barrier *barrier, struct paldwosk_seat *seat) {
-  struct paldwosk_sleeper *me = &seat->call;
-  if (paldwosk_is_over(barrier, me)) return;
-  me->patience = paldwosk_patience(barrier, me, &seat->tries);
-  me->yields = paldwosk_yields(barrier);
-  paldwosk_spin(barrier, me);
-  if (paldwosk_is_over(barrier, me)) return;
+PALDWOSK_INLINE void paldwoski_wait_at_seat(paldwosk_barrier *barrier, struct paldwoski_seat *seat) {
+  struct paldwoski_sleeper *me = &seat->call;
+  if (paldwoski_is_over(barrier, me)) return;
+  me->patience = paldwoski_patience(barrier, me, &seat->tries);
+  me->yields = paldwoski_yields(barrier);
+  paldwoski_spin(barrier, me);
+  if (paldwoski_is_over(barrier, me)) return;
   __atomic_fetch_add(&barrier->rounds->sleepers, 1, __ATOMIC_SEQ_CST);
-  paldwosk_sleep(barrier, me);
+  paldwoski_sleep(barrier, me);
   __atomic_fetch_sub(&barrier->rounds->sleepers, 1, __ATOMIC_SEQ_CST);
 }
 
 /* The phaser was told of the call if it has an answer. That comes first: a task that was made to leave has one, and the
  * others' next round may be over before its thread knows. Else a round was made of the phase in which the task came. The
  * barrier may have become slow since, and fast again. */
-PALDWOSK_INLINE paldwosk_answer paldwosk_answer_at_seat(struct paldwosk_seat *seat, uint64_t *phase) {
-  struct paldwosk_sleeper *me = &seat->call;
+PALDWOSK_INLINE paldwosk_answer paldwoski_answer_at_seat(struct paldwoski_seat *seat, uint64_t *phase) {
+  struct paldwoski_sleeper *me = &seat->call;
   uint64_t came = __atomic_load_n(&seat->came, __ATOMIC_RELAXED), number = came - 1;
   uint32_t answer = PALDWOSK_DONE;
-  if (paldwosk_is_ready(me)) {
+  if (paldwoski_is_ready(me)) {
     answer = me->answer;
     number = me->number;
   } else __atomic_store_n(&seat->phase, came, __ATOMIC_RELAXED);
-  __atomic_store_n(&me->state, PALDWOSK_SPINNING, __ATOMIC_RELAXED);
+  __atomic_store_n(&me->state, PALDWOSKI_SPINNING, __ATOMIC_RELAXED);
   if (answer == PALDWOSK_DONE && phase) *phase = number;
   return (paldwosk_answer)answer;
 }
 
 /* A next by the task's seat. Whether it was made: else the barrier is slow, or another is at the seat. */
-PALDWOSK_INLINE int paldwosk_next_at_seat(const paldwosk_task *task, paldwosk_answer *answer, uint64_t *phase) {
-  struct paldwosk_seat *seat = paldwosk_enter_seat(task);
+PALDWOSK_INLINE int paldwoski_next_at_seat(const paldwosk_task *task, paldwosk_answer *answer, uint64_t *phase) {
+  struct paldwoski_seat *seat = paldwoski_enter_seat(task);
   if (!seat) return 0;
-  int has_come = paldwosk_come(task->barrier, seat);
+  int has_come = paldwoski_come(task->barrier, seat);
   if (has_come) {
-    __atomic_store_n(&seat->inside, PALDWOSK_SEATED, __ATOMIC_RELEASE);
-    paldwosk_wait_at_seat(task->barrier, seat);
-    *answer = paldwosk_answer_at_seat(seat, phase);
+    __atomic_store_n(&seat->inside, PALDWOSKI_SEATED, __ATOMIC_RELEASE);
+    paldwoski_wait_at_seat(task->barrier, seat);
+    *answer = paldwoski_answer_at_seat(seat, phase);
   }
-  paldwosk_leave_seat(seat);
+  paldwoski_leave_seat(seat);
   return has_come;
 }
 
 /* With the phaser: whether the task can come by its seat. */
-PALDWOSK_INLINE int paldwosk_can_come(const paldwosk_task *task) {
-  const struct paldwosk_seat *seat = paldwosk_seat_of(task);
-  return seat && !paldwosk_is_slow(task->barrier) &&
-         __atomic_load_n(&seat->inside, __ATOMIC_ACQUIRE) == PALDWOSK_OUTSIDE;
+PALDWOSK_INLINE int paldwoski_can_come(const paldwosk_task *task) {
+  const struct paldwoski_seat *seat = paldwoski_seat_of(task);
+  return seat && !paldwoski_is_slow(task->barrier) &&
+         __atomic_load_n(&seat->inside, __ATOMIC_ACQUIRE) == PALDWOSKI_OUTSIDE;
 }
 
 /* ---- Making and freeing rounds */
 
-PALDWOSK_INLINE int paldwosk_new_rounds(paldwosk_barrier *barrier) {
-  barrier->rounds_memory = calloc(1, sizeof *barrier->rounds + PALDWOSK_LINE);
-  uintptr_t first = ((uintptr_t)barrier->rounds_memory + PALDWOSK_LINE - 1) / PALDWOSK_LINE * PALDWOSK_LINE;
-  barrier->rounds = (struct paldwosk_rounds *)first;
+PALDWOSK_INLINE int paldwoski_new_rounds(paldwosk_barrier *barrier) {
+  barrier->rounds_memory = calloc(1, sizeof *barrier->rounds + PALDWOSKI_LINE);
+  uintptr_t first = ((uintptr_t)barrier->rounds_memory + PALDWOSKI_LINE - 1) / PALDWOSKI_LINE * PALDWOSKI_LINE;
+  barrier->rounds = (struct paldwoski_rounds *)first;
   return barrier->rounds_memory != NULL;
 }
 
-PALDWOSK_INLINE void paldwosk_free_rounds(paldwosk_barrier *barrier) {
+PALDWOSK_INLINE void paldwoski_free_rounds(paldwosk_barrier *barrier) {
   free(barrier->rounds_memory);
   barrier->rounds_memory = NULL;
   barrier->rounds = NULL;
 }
 
 /* Their memory is of nulls. The barrier is slow until it has a task. */
-PALDWOSK_INLINE void paldwosk_open_turn(paldwosk_barrier *barrier) {
-  struct paldwosk_rounds *rounds = barrier->rounds;
+PALDWOSK_INLINE void paldwoski_open_turn(paldwosk_barrier *barrier) {
+  struct paldwoski_rounds *rounds = barrier->rounds;
   barrier->uneven = 0;
-  rounds->to_come = PALDWOSK_STILL;
+  rounds->to_come = PALDWOSKI_STILL;
   rounds->is_slow = barrier->rest = barrier->rest_left = 1;
-  for (int at = 0; at < PALDWOSK_MOST_MEMBERS; at++) rounds->seats[at].task = PALDWOSK_NOBODY;
-  for (int at = 0; at < PALDWOSK_MOST_ACCUMULATORS; at++) rounds->folds[at].phase = UINT64_MAX;
+  for (int at = 0; at < PALDWOSKI_MOST_MEMBERS; at++) rounds->seats[at].task = PALDWOSKI_NOBODY;
+  for (int at = 0; at < PALDWOSKI_MOST_ACCUMULATORS; at++) rounds->folds[at].phase = UINT64_MAX;
 }
 
-PALDWOSK_INLINE void paldwosk_raise_turn(paldwosk_barrier *barrier) { paldwosk_raise(barrier->rounds, 0); }
+PALDWOSK_INLINE void paldwoski_raise_turn(paldwosk_barrier *barrier) { paldwoski_raise(barrier->rounds, 0); }
 
 #else
 
-PALDWOSK_INLINE void paldwosk_take_phaser(paldwosk_barrier *barrier) { (void)barrier; }
-PALDWOSK_INLINE void paldwosk_give_phaser_back(paldwosk_barrier *barrier) { (void)barrier; }
-PALDWOSK_INLINE void paldwosk_go_slow(paldwosk_barrier *barrier) { (void)barrier; }
-PALDWOSK_INLINE void paldwosk_settle(const paldwosk_task *task) { (void)task; }
-PALDWOSK_INLINE void paldwosk_claim(const paldwosk_task *task) { (void)task; }
-PALDWOSK_INLINE void paldwosk_claim_to_join(const paldwosk_task *parent, uint32_t mode) { (void)parent, (void)mode; }
-PALDWOSK_INLINE void paldwosk_claim_to_leave(const paldwosk_task *task) { (void)task; }
+PALDWOSK_INLINE void paldwoski_take_phaser(paldwosk_barrier *barrier) { (void)barrier; }
+PALDWOSK_INLINE void paldwoski_give_phaser_back(paldwosk_barrier *barrier) { (void)barrier; }
+PALDWOSK_INLINE void paldwoski_go_slow(paldwosk_barrier *barrier) { (void)barrier; }
+PALDWOSK_INLINE void paldwoski_settle(const paldwosk_task *task) { (void)task; }
+PALDWOSK_INLINE void paldwoski_claim(const paldwosk_task *task) { (void)task; }
+PALDWOSK_INLINE void paldwoski_claim_to_join(const paldwosk_task *parent, uint32_t mode) { (void)parent, (void)mode; }
+PALDWOSK_INLINE void paldwoski_claim_to_leave(const paldwosk_task *task) { (void)task; }
 
-PALDWOSK_INLINE int paldwosk_keep_send(const paldwosk_task *task, uint8_t index, int32_t value) {
+PALDWOSK_INLINE int paldwoski_keep_send(const paldwosk_task *task, uint8_t index, int32_t value) {
   (void)task, (void)index, (void)value;
   return 0;
 }
 
-PALDWOSK_INLINE int paldwosk_look_at_fold(const paldwosk_task *task, uint8_t index, int64_t *value,
-                                          paldwosk_answer *answer) {
+PALDWOSK_INLINE int paldwoski_look_at_fold(const paldwosk_task *task, uint8_t index, int64_t *value,
+                                           paldwosk_answer *answer) {
   (void)task, (void)index, (void)value, (void)answer;
   return 0;
 }
 
-PALDWOSK_INLINE void paldwosk_want_fold(paldwosk_barrier *barrier, uint8_t index, uint32_t answer) {
+PALDWOSK_INLINE void paldwoski_want_fold(paldwosk_barrier *barrier, uint8_t index, uint32_t answer) {
   (void)barrier, (void)index, (void)answer;
 }
 
-PALDWOSK_INLINE uint32_t paldwosk_add_seat(paldwosk_barrier *barrier, uint64_t number) {
+PALDWOSK_INLINE uint32_t paldwoski_add_seat(paldwosk_barrier *barrier, uint64_t number) {
   (void)barrier, (void)number;
   return 0;
 }
 
-PALDWOSK_INLINE void paldwosk_remove_seat(paldwosk_barrier *barrier, uint64_t number) { (void)barrier, (void)number; }
-PALDWOSK_INLINE int paldwosk_has_come(const paldwosk_barrier *barrier) { return (void)barrier, 0; }
-PALDWOSK_INLINE int paldwosk_are_seats_left(const paldwosk_barrier *barrier) { return (void)barrier, 1; }
-PALDWOSK_INLINE int paldwosk_new_rounds(paldwosk_barrier *barrier) { return (void)barrier, 1; }
-PALDWOSK_INLINE void paldwosk_free_rounds(paldwosk_barrier *barrier) { (void)barrier; }
-PALDWOSK_INLINE void paldwosk_open_turn(paldwosk_barrier *barrier) { barrier->turn = 0; }
+PALDWOSK_INLINE void paldwoski_remove_seat(paldwosk_barrier *barrier, uint64_t number) { (void)barrier, (void)number; }
+PALDWOSK_INLINE int paldwoski_has_come(const paldwosk_barrier *barrier) { return (void)barrier, 0; }
+PALDWOSK_INLINE int paldwoski_are_seats_left(const paldwosk_barrier *barrier) { return (void)barrier, 1; }
+PALDWOSK_INLINE int paldwoski_new_rounds(paldwosk_barrier *barrier) { return (void)barrier, 1; }
+PALDWOSK_INLINE void paldwoski_free_rounds(paldwosk_barrier *barrier) { (void)barrier; }
+PALDWOSK_INLINE void paldwoski_open_turn(paldwosk_barrier *barrier) { barrier->turn = 0; }
 
-#ifdef PALDWOSK_BY_FUTEX
-PALDWOSK_INLINE void paldwosk_raise_turn(paldwosk_barrier *barrier) {
+#ifdef PALDWOSKI_BY_FUTEX
+PALDWOSK_INLINE void paldwoski_raise_turn(paldwosk_barrier *barrier) {
   __atomic_store_n(&barrier->turn, barrier->turn + 1, __ATOMIC_RELEASE);
 }
 #endif
@@ -1704,365 +1735,365 @@ PALDWOSK_INLINE void paldwosk_raise_turn(paldwosk_barrier *barrier) {
 
 /* ---- Giving the lock back */
 
-#ifdef PALDWOSK_BY_FUTEX
+#ifdef PALDWOSKI_BY_FUTEX
 
 /* Gives the phaser and the lock back, and wakes the threads that the call has freed. After the unlock only threads that
  * are counted as inside read the barrier; a thread's last access takes it off that count. */
-PALDWOSK_INLINE void paldwosk_unlock(paldwosk_barrier *barrier) {
+PALDWOSK_INLINE void paldwoski_unlock(paldwosk_barrier *barrier) {
   uint32_t bits = barrier->to_wake;
   barrier->to_wake = 0;
   if (bits) __atomic_fetch_add(&barrier->inside, 1, __ATOMIC_RELAXED);
-  if (bits) paldwosk_raise_turn(barrier);
-  paldwosk_give_phaser_back(barrier);
+  if (bits) paldwoski_raise_turn(barrier);
+  paldwoski_give_phaser_back(barrier);
   pthread_mutex_unlock(&barrier->lock);
   if (!bits) return;
-  paldwosk_futex(paldwosk_turn_word(barrier), 1, INT_MAX, bits);
+  paldwoski_futex(paldwoski_turn_word(barrier), 1, INT_MAX, bits);
   __atomic_fetch_sub(&barrier->inside, 1, __ATOMIC_RELEASE);
 }
 
 /* The same, and it waits until the call itself is over. */
-PALDWOSK_INLINE void paldwosk_unlock_and_wait(paldwosk_barrier *barrier, struct paldwosk_sleeper *me) {
-  paldwosk_unlock(barrier);
+PALDWOSK_INLINE void paldwoski_unlock_and_wait(paldwosk_barrier *barrier, struct paldwoski_sleeper *me) {
+  paldwoski_unlock(barrier);
   if (!me->is_parked) return;
-  paldwosk_spin(barrier, me);
-  paldwosk_sleep(barrier, me);
+  paldwoski_spin(barrier, me);
+  paldwoski_sleep(barrier, me);
   __atomic_fetch_sub(&barrier->inside, 1, __ATOMIC_RELEASE);
 }
 
 #else
 
 /* Wakes the threads that the call has freed, and gives the lock back. */
-PALDWOSK_INLINE void paldwosk_unlock(paldwosk_barrier *barrier) {
+PALDWOSK_INLINE void paldwoski_unlock(paldwosk_barrier *barrier) {
   if (barrier->to_wake) pthread_cond_broadcast(&barrier->turned);
   barrier->to_wake = 0;
   pthread_mutex_unlock(&barrier->lock);
 }
 
 /* The same, and before it gives the lock back it waits until the call itself is over. */
-PALDWOSK_INLINE void paldwosk_unlock_and_wait(paldwosk_barrier *barrier, struct paldwosk_sleeper *me) {
+PALDWOSK_INLINE void paldwoski_unlock_and_wait(paldwosk_barrier *barrier, struct paldwoski_sleeper *me) {
   if (barrier->to_wake) pthread_cond_broadcast(&barrier->turned);
   barrier->to_wake = 0;
-  if (me->is_parked) paldwosk_sleep(barrier, me);
+  if (me->is_parked) paldwoski_sleep(barrier, me);
   if (me->is_parked) __atomic_fetch_sub(&barrier->inside, 1, __ATOMIC_RELAXED);
   pthread_mutex_unlock(&barrier->lock);
 }
 
 #endif
 
-PALDWOSK_APART void paldwosk_ask_to_leave(paldwosk_barrier *barrier, struct paldwosk_sleeper *me) {
+PALDWOSKI_APART void paldwoski_ask_to_leave(paldwosk_barrier *barrier, struct paldwoski_sleeper *me) {
   paldwosk_freed freed[PALDWOSK_MOST_FREED];
   size_t count = 0;
   me->answer = phaser_c_waiting_leave(&barrier->phaser, me->task, freed, PALDWOSK_MOST_FREED, &count);
-  if (me->answer == PALDWOSK_DONE) paldwosk_remove_seat(barrier, me->task);
-  if (me->answer == PALDWOSK_DONE) paldwosk_remove_member(barrier, me->task);
-  if (me->answer == PALDWOSK_DONE && barrier->trace) paldwosk_trace_left(barrier->trace, me->task);
-  paldwosk_free_those(barrier, freed, count);
-  if (me->answer == PALDWOSK_DONE) paldwosk_end_overdue(barrier, me->task);
+  if (me->answer == PALDWOSK_DONE) paldwoski_remove_seat(barrier, me->task);
+  if (me->answer == PALDWOSK_DONE) paldwoski_remove_member(barrier, me->task);
+  if (me->answer == PALDWOSK_DONE && barrier->trace) paldwoski_trace_left(barrier->trace, me->task);
+  paldwoski_free_those(barrier, freed, count);
+  if (me->answer == PALDWOSK_DONE) paldwoski_end_overdue(barrier, me->task);
 }
 
 /* ---- Waits that have a time. One that is watched sleeps until it is to be told of, and then as long as it has to. */
 
-enum { PALDWOSK_MOST_TOLD = 16, PALDWOSK_LINE_ROOM = 2048 }; /* sixteen tasks of each kind take less than 1,400 bytes */
+enum { PALDWOSKI_MOST_TOLD = 16, PALDWOSKI_LINE_ROOM = 2048 }; /* sixteen tasks of each kind take less than 1,400 bytes */
 
-#ifdef PALDWOSK_BY_FUTEX
+#ifdef PALDWOSKI_BY_FUTEX
 
 /* Gives the lock back, spins, sleeps until the call is over or the time has come, and takes the lock again. The turn is
- * read before the state, as in paldwosk_sleep. */
-PALDWOSK_INLINE void paldwosk_sleep_until(paldwosk_barrier *barrier, struct paldwosk_sleeper *me,
-                                          const struct timespec *until) {
+ * read before the state, as in paldwoski_sleep. */
+PALDWOSK_INLINE void paldwoski_sleep_until(paldwosk_barrier *barrier, struct paldwoski_sleeper *me,
+                                           const struct timespec *until) {
   enum { WAIT_BITSET = 9, IS_PRIVATE = 128 };
-  uint32_t *word = paldwosk_turn_word(barrier);
+  uint32_t *word = paldwoski_turn_word(barrier);
   long slept = 0;
-  paldwosk_unlock(barrier);
-  paldwosk_spin(barrier, me);
+  paldwoski_unlock(barrier);
+  paldwoski_spin(barrier, me);
   do {
-    uint32_t seen = paldwosk_turn(barrier);
-    if (paldwosk_is_ready(me)) break;
-    slept = syscall(SYS_futex, word, WAIT_BITSET | IS_PRIVATE, seen, until, NULL, paldwosk_bit(me->task));
+    uint32_t seen = paldwoski_turn(barrier);
+    if (paldwoski_is_ready(me)) break;
+    slept = syscall(PALDWOSKI_TIMED_FUTEX, word, WAIT_BITSET | IS_PRIVATE, seen, until, NULL, paldwoski_bit(me->task));
   } while (slept == 0 || errno != ETIMEDOUT);
-  paldwosk_lock(barrier);
-  paldwosk_take_phaser(barrier);
+  paldwoski_lock(barrier);
+  paldwoski_take_phaser(barrier);
   me->patience = me->yields = 0; /* it has spun */
 }
 
 #else
 
-PALDWOSK_INLINE void paldwosk_sleep_until(paldwosk_barrier *barrier, struct paldwosk_sleeper *me,
-                                          const struct timespec *until) {
+PALDWOSK_INLINE void paldwoski_sleep_until(paldwosk_barrier *barrier, struct paldwoski_sleeper *me,
+                                           const struct timespec *until) {
   int slept = 0;
   if (barrier->to_wake) pthread_cond_broadcast(&barrier->turned);
   barrier->to_wake = 0;
-  paldwosk_yield(barrier, me);
+  paldwoski_yield(barrier, me);
   me->yields = 0;
-  while (slept == 0 && !paldwosk_is_ready(me)) slept = pthread_cond_timedwait(&barrier->turned, &barrier->lock, until);
+  while (slept == 0 && !paldwoski_is_ready(me)) slept = pthread_cond_timedwait(&barrier->turned, &barrier->lock, until);
 }
 
 #endif
 
 /* Names a task in a list, after so many others. Whether it did: the list is cut. */
-PALDWOSK_INLINE int paldwosk_text_task(struct paldwosk_text *line, size_t before, uint64_t task) {
-  if (before >= PALDWOSK_MOST_TOLD) return 0;
-  paldwosk_text_word(line, before ? ", " : " ");
-  paldwosk_text_number(line, (int64_t)task);
+PALDWOSK_INLINE int paldwoski_text_task(struct paldwoski_text *line, size_t before, uint64_t task) {
+  if (before >= PALDWOSKI_MOST_TOLD) return 0;
+  paldwoski_text_word(line, before ? ", " : " ");
+  paldwoski_text_number(line, (int64_t)task);
   return 1;
 }
 
-PALDWOSK_INLINE void paldwosk_text_more(struct paldwosk_text *line, size_t count) {
-  if (count <= PALDWOSK_MOST_TOLD) return;
-  paldwosk_text_word(line, " and ");
-  paldwosk_text_number(line, (int64_t)(count - PALDWOSK_MOST_TOLD));
-  paldwosk_text_word(line, " more");
+PALDWOSK_INLINE void paldwoski_text_more(struct paldwoski_text *line, size_t count) {
+  if (count <= PALDWOSKI_MOST_TOLD) return;
+  paldwoski_text_word(line, " and ");
+  paldwoski_text_number(line, (int64_t)(count - PALDWOSKI_MOST_TOLD));
+  paldwoski_text_word(line, " more");
 }
 
-PALDWOSK_INLINE void paldwosk_text_waiting(struct paldwosk_text *line, paldwosk_barrier *barrier) {
+PALDWOSK_INLINE void paldwoski_text_waiting(struct paldwoski_text *line, paldwosk_barrier *barrier) {
   size_t count = 0;
-  paldwosk_text_word(line, "; waiting:");
-  for (struct paldwosk_sleeper *at = barrier->first; at; at = at->next) {
-    if (!paldwosk_text_task(line, count++, at->task)) continue;
-    paldwosk_text_word(line, " (phase ");
-    paldwosk_text_number(line, (int64_t)paldwosk_member_of(barrier, at->task)->passes);
-    paldwosk_text_word(line, ")");
+  paldwoski_text_word(line, "; waiting:");
+  for (struct paldwoski_sleeper *at = barrier->first; at; at = at->next) {
+    if (!paldwoski_text_task(line, count++, at->task)) continue;
+    paldwoski_text_word(line, " (phase ");
+    paldwoski_text_number(line, (int64_t)paldwoski_member_of(barrier, at->task)->passes);
+    paldwoski_text_word(line, ")");
   }
-  paldwosk_text_more(line, count);
+  paldwoski_text_more(line, count);
 }
 
-PALDWOSK_INLINE void paldwosk_text_missing(struct paldwosk_text *line, paldwosk_barrier *barrier) {
-  uint64_t missing[PALDWOSK_MOST_MEMBERS];
-  size_t count = paldwosk_find_missing(barrier, missing);
-  paldwosk_text_word(line, "; missing:");
-  for (size_t at = 0; at < count; at++) paldwosk_text_task(line, at, missing[at]);
-  paldwosk_text_more(line, count);
+PALDWOSK_INLINE void paldwoski_text_missing(struct paldwoski_text *line, paldwosk_barrier *barrier) {
+  uint64_t missing[PALDWOSKI_MOST_MEMBERS];
+  size_t count = paldwoski_find_missing(barrier, missing);
+  paldwoski_text_word(line, "; missing:");
+  for (size_t at = 0; at < count; at++) paldwoski_text_task(line, at, missing[at]);
+  paldwoski_text_more(line, count);
 }
 
 /* Writes the line about a wait. Others may have the lock meanwhile: standard error may be slow. */
-PALDWOSK_APART void paldwosk_tell_wait(paldwosk_barrier *barrier, const struct paldwosk_sleeper *me) {
-  char room[PALDWOSK_LINE_ROOM];
-  struct paldwosk_text line = {room, 0, 0, NULL};
-  paldwosk_text_word(&line, "paldwosk: task ");
-  paldwosk_text_number(&line, (int64_t)me->task);
-  paldwosk_text_word(&line, " waits for more than ");
-  paldwosk_text_number(&line, barrier->watch);
-  paldwosk_text_word(&line, " s");
-  paldwosk_text_waiting(&line, barrier);
-  paldwosk_text_missing(&line, barrier);
-  paldwosk_text_word(&line, "\n");
+PALDWOSKI_APART void paldwoski_tell_wait(paldwosk_barrier *barrier, const struct paldwoski_sleeper *me) {
+  char room[PALDWOSKI_LINE_ROOM];
+  struct paldwoski_text line = {room, 0, 0, NULL};
+  paldwoski_text_word(&line, "paldwosk: task ");
+  paldwoski_text_number(&line, (int64_t)me->task);
+  paldwoski_text_word(&line, " waits for more than ");
+  paldwoski_text_number(&line, barrier->watch);
+  paldwoski_text_word(&line, " s");
+  paldwoski_text_waiting(&line, barrier);
+  paldwoski_text_missing(&line, barrier);
+  paldwoski_text_word(&line, "\n");
   pthread_mutex_unlock(&barrier->lock);
   ssize_t written = write(STDERR_FILENO, room, line.length);
   (void)written; /* there is nobody to tell that it failed */
-  paldwosk_lock(barrier);
+  paldwoski_lock(barrier);
 }
 
 /* It sleeps at once, and counts as asleep, so others wake it. Writing and a timed wait would be cancellation points. */
-PALDWOSK_INLINE void paldwosk_watch(paldwosk_barrier *barrier, struct paldwosk_sleeper *me) {
-  struct timespec until = paldwosk_after(1000 * barrier->watch);
+PALDWOSK_INLINE void paldwoski_watch(paldwosk_barrier *barrier, struct paldwoski_sleeper *me) {
+  struct timespec until = paldwoski_after(1000 * barrier->watch);
   int old = 0, kept = errno;
   me->patience = me->yields = 0;
   pthread_setcancelstate(PTHREAD_CANCEL_DISABLE, &old);
-  paldwosk_sleep_until(barrier, me, &until);
-  if (!paldwosk_is_ready(me)) paldwosk_tell_wait(barrier, me);
+  paldwoski_sleep_until(barrier, me, &until);
+  if (!paldwoski_is_ready(me)) paldwoski_tell_wait(barrier, me);
   pthread_setcancelstate(old, &old);
   errno = kept;
 }
 
 /* Waits for so many milliseconds at most. It spins no longer than a barrier does that nobody has set. */
-PALDWOSK_INLINE void paldwosk_wait_in_time(paldwosk_barrier *barrier, struct paldwosk_sleeper *me,
-                                           uint32_t milliseconds) {
-  struct timespec until = paldwosk_after(milliseconds);
+PALDWOSK_INLINE void paldwoski_wait_in_time(paldwosk_barrier *barrier, struct paldwoski_sleeper *me,
+                                            uint32_t milliseconds) {
+  struct timespec until = paldwoski_after(milliseconds);
   int old = 0, kept = errno;
   if (me->patience > PALDWOSK_MOST_PAUSES) me->patience = PALDWOSK_MOST_PAUSES;
   pthread_setcancelstate(PTHREAD_CANCEL_DISABLE, &old);
-  if (barrier->watch && 1000 * barrier->watch < milliseconds) paldwosk_watch(barrier, me);
-  if (!paldwosk_is_ready(me)) paldwosk_sleep_until(barrier, me, &until);
+  if (barrier->watch && 1000 * barrier->watch < milliseconds) paldwoski_watch(barrier, me);
+  if (!paldwoski_is_ready(me)) paldwoski_sleep_until(barrier, me, &until);
   pthread_setcancelstate(old, &old);
   errno = kept;
 }
 
 /* After how many seconds a wait is told of; 0 if it never is. */
-PALDWOSK_INLINE uint32_t paldwosk_watch_of_environment(void) {
+PALDWOSK_INLINE uint32_t paldwoski_watch_of_environment(void) {
   const char *words = getenv("PALDWOSK_WATCH");
   unsigned long seconds = words ? strtoul(words, NULL, 10) : 0;
   return seconds < 86400 ? (uint32_t)seconds : 86400;
 }
 
 /* The call's own part is done. Sleepers that are still to ask do so. */
-PALDWOSK_INLINE void paldwosk_let_ask(paldwosk_barrier *barrier) {
-  struct paldwosk_sleeper *sleeper;
-  while (barrier->trace && (sleeper = paldwosk_take_asking(barrier))) paldwosk_ask_for(barrier, sleeper);
+PALDWOSK_INLINE void paldwoski_let_ask(paldwosk_barrier *barrier) {
+  struct paldwoski_sleeper *sleeper;
+  while (barrier->trace && (sleeper = paldwoski_take_asking(barrier))) paldwoski_ask_for(barrier, sleeper);
 }
 
 /* They do so, the lock is given back, and it waits if it must. */
-PALDWOSK_INLINE void paldwosk_end_call(paldwosk_barrier *barrier, struct paldwosk_sleeper *me) {
-  paldwosk_let_ask(barrier);
-  if (barrier->watch && me->is_parked) paldwosk_watch(barrier, me);
-  paldwosk_unlock_and_wait(barrier, me);
+PALDWOSK_INLINE void paldwoski_end_call(paldwosk_barrier *barrier, struct paldwoski_sleeper *me) {
+  paldwoski_let_ask(barrier);
+  if (barrier->watch && me->is_parked) paldwoski_watch(barrier, me);
+  paldwoski_unlock_and_wait(barrier, me);
 }
 
 /* The same, but it waits for so many milliseconds at most. */
-PALDWOSK_INLINE void paldwosk_end_in_time(paldwosk_barrier *barrier, struct paldwosk_sleeper *me,
-                                          uint32_t milliseconds) {
-  paldwosk_let_ask(barrier);
-  if (milliseconds && me->is_parked && !paldwosk_is_ready(me)) paldwosk_wait_in_time(barrier, me, milliseconds);
-  if (me->is_parked && !paldwosk_is_ready(me)) paldwosk_go_overdue(barrier, me);
-  paldwosk_unlock_and_wait(barrier, me);
+PALDWOSK_INLINE void paldwoski_end_in_time(paldwosk_barrier *barrier, struct paldwoski_sleeper *me,
+                                           uint32_t milliseconds) {
+  paldwoski_let_ask(barrier);
+  if (milliseconds && me->is_parked && !paldwoski_is_ready(me)) paldwoski_wait_in_time(barrier, me, milliseconds);
+  if (me->is_parked && !paldwoski_is_ready(me)) paldwoski_go_overdue(barrier, me);
+  paldwoski_unlock_and_wait(barrier, me);
 }
 
-PALDWOSK_INLINE void paldwosk_begin_call(paldwosk_barrier *barrier, struct paldwosk_sleeper *me) {
+PALDWOSK_INLINE void paldwoski_begin_call(paldwosk_barrier *barrier, struct paldwoski_sleeper *me) {
   me->is_to_ask = barrier->trace != NULL;
-  me->is_to_pass = me->call == PALDWOSK_CALL_WAIT;
-  if (barrier->trace) paldwosk_park(barrier, me);
-  else paldwosk_ask_and_free(barrier, me);
+  me->is_to_pass = me->call == PALDWOSKI_CALL_WAIT;
+  if (barrier->trace) paldwoski_park(barrier, me);
+  else paldwoski_ask_and_free(barrier, me);
 }
 
 /* ---- Who may enter */
 
 #ifdef __cplusplus
-#define PALDWOSK_OF_HEADER inline
+#define PALDWOSKI_OF_HEADER inline
 #else
-#define PALDWOSK_OF_HEADER static
+#define PALDWOSKI_OF_HEADER static
 #endif
 
-PALDWOSK_OF_HEADER uint32_t paldwosk_forks; /* atomic: how many forks lie above this process since its first use */
-PALDWOSK_OF_HEADER int paldwosk_are_forks_missed;
-PALDWOSK_OF_HEADER pthread_once_t paldwosk_forks_once = PTHREAD_ONCE_INIT;
+PALDWOSKI_OF_HEADER uint32_t paldwoski_forks; /* atomic: how many forks lie above this process since its first use */
+PALDWOSKI_OF_HEADER int paldwoski_are_forks_missed;
+PALDWOSKI_OF_HEADER pthread_once_t paldwoski_forks_once = PTHREAD_ONCE_INIT;
 
-PALDWOSK_INLINE void paldwosk_count_fork(void) { __atomic_fetch_add(&paldwosk_forks, 1, __ATOMIC_RELAXED); }
+PALDWOSK_INLINE void paldwoski_count_fork(void) { __atomic_fetch_add(&paldwoski_forks, 1, __ATOMIC_RELAXED); }
 
-PALDWOSK_INLINE void paldwosk_watch_forks(void) {
-  paldwosk_are_forks_missed = pthread_atfork(NULL, NULL, paldwosk_count_fork) != 0;
+PALDWOSK_INLINE void paldwoski_watch_forks(void) {
+  paldwoski_are_forks_missed = pthread_atfork(NULL, NULL, paldwoski_count_fork) != 0;
 }
 
-PALDWOSK_INLINE int paldwosk_is_inherited(const paldwosk_barrier *barrier) {
+PALDWOSK_INLINE int paldwoski_is_inherited(const paldwosk_barrier *barrier) {
   return __atomic_load_n(barrier->forks, __ATOMIC_RELAXED) != barrier->forks_then;
 }
 
-PALDWOSK_INLINE paldwosk_answer paldwosk_may_enter(const paldwosk_barrier *barrier) {
+PALDWOSK_INLINE paldwosk_answer paldwoski_may_enter(const paldwosk_barrier *barrier) {
   if (!barrier) return PALDWOSK_NULL;
-  return !barrier->forks || paldwosk_is_inherited(barrier) ? PALDWOSK_CLOSED : PALDWOSK_DONE;
+  return !barrier->forks || paldwoski_is_inherited(barrier) ? PALDWOSK_CLOSED : PALDWOSK_DONE;
 }
 
 /* Takes the lock and the phaser if it answers DONE. Tasks may come meanwhile. */
-PALDWOSK_INLINE paldwosk_answer paldwosk_enter(paldwosk_barrier *barrier) {
-  paldwosk_answer answer = paldwosk_may_enter(barrier);
+PALDWOSK_INLINE paldwosk_answer paldwoski_enter(paldwosk_barrier *barrier) {
+  paldwosk_answer answer = paldwoski_may_enter(barrier);
   if (answer != PALDWOSK_DONE) return answer;
-  paldwosk_lock(barrier);
-  paldwosk_take_phaser(barrier);
+  paldwoski_lock(barrier);
+  paldwoski_take_phaser(barrier);
   return PALDWOSK_DONE;
 }
 
-PALDWOSK_INLINE paldwosk_answer paldwosk_enter_by(const paldwosk_task *task) {
-  return task ? paldwosk_enter(task->barrier) : PALDWOSK_NULL;
+PALDWOSK_INLINE paldwosk_answer paldwoski_enter_by(const paldwosk_task *task) {
+  return task ? paldwoski_enter(task->barrier) : PALDWOSK_NULL;
 }
 
 /* With the lock. A task passes once its running single is reported: a wait in the statement would never end. */
-PALDWOSK_INLINE int paldwosk_is_in_single(const paldwosk_task *task) {
+PALDWOSK_INLINE int paldwoski_is_in_single(const paldwosk_task *task) {
   return task->barrier->coming && task->barrier->claimer == task->number;
 }
 
 /* With the lock: begins a call that may have to wait, or goes on with the task's overdue call. */
-PALDWOSK_INLINE void paldwosk_begin_or_go_on(const paldwosk_task *task, struct paldwosk_sleeper *me) {
+PALDWOSK_INLINE void paldwoski_begin_or_go_on(const paldwosk_task *task, struct paldwoski_sleeper *me) {
   paldwosk_barrier *barrier = task->barrier;
-  if (barrier->overdue && *paldwosk_overdue_of(barrier, me->task)) paldwosk_go_on_overdue(barrier, me);
-  else if (me->call == PALDWOSK_CALL_WAIT && paldwosk_is_in_single(task)) me->answer = PALDWOSK_NOT_NOW;
-  else paldwosk_begin_call(barrier, me);
+  if (barrier->overdue && *paldwoski_overdue_of(barrier, me->task)) paldwoski_go_on_overdue(barrier, me);
+  else if (me->call == PALDWOSKI_CALL_WAIT && paldwoski_is_in_single(task)) me->answer = PALDWOSK_NOT_NOW;
+  else paldwoski_begin_call(barrier, me);
 }
 
 /* The call of a task that may have to wait, with the lock and the phaser, which it gives back. */
-PALDWOSK_INLINE paldwosk_answer paldwosk_call_entered(const paldwosk_task *task, uint32_t call, uint32_t single,
-                                                      uint64_t *phase) {
-  struct paldwosk_sleeper me = paldwosk_new_sleeper(task->number, call, single);
-  paldwosk_settle(task);
-  paldwosk_begin_or_go_on(task, &me);
-  paldwosk_end_call(task->barrier, &me);
+PALDWOSK_INLINE paldwosk_answer paldwoski_call_entered(const paldwosk_task *task, uint32_t call, uint32_t single,
+                                                       uint64_t *phase) {
+  struct paldwoski_sleeper me = paldwoski_new_sleeper(task->number, call, single);
+  paldwoski_settle(task);
+  paldwoski_begin_or_go_on(task, &me);
+  paldwoski_end_call(task->barrier, &me);
   if (me.answer == PALDWOSK_DONE && phase) *phase = me.number;
   return (paldwosk_answer)me.answer;
 }
 
 /* The call of a task that may have to wait. */
-PALDWOSK_INLINE paldwosk_answer paldwosk_call_by(const paldwosk_task *task, uint32_t call, uint32_t single,
-                                                 uint64_t *phase) {
-  paldwosk_answer entered = paldwosk_enter_by(task);
-  return entered == PALDWOSK_DONE ? paldwosk_call_entered(task, call, single, phase) : entered;
+PALDWOSK_INLINE paldwosk_answer paldwoski_call_by(const paldwosk_task *task, uint32_t call, uint32_t single,
+                                                  uint64_t *phase) {
+  paldwosk_answer entered = paldwoski_enter_by(task);
+  return entered == PALDWOSK_DONE ? paldwoski_call_entered(task, call, single, phase) : entered;
 }
 
-#ifdef PALDWOSK_IN_ROUNDS
+#ifdef PALDWOSKI_IN_ROUNDS
 /* A next: by the task's seat, or with the lock if the barrier is slow. It may be fast again once this thread has the
  * lock. */
-PALDWOSK_INLINE paldwosk_answer paldwosk_next_by(const paldwosk_task *task, uint64_t *phase) {
+PALDWOSK_INLINE paldwosk_answer paldwoski_next_by(const paldwosk_task *task, uint64_t *phase) {
   for (;;) {
-    paldwosk_answer answer = task ? paldwosk_may_enter(task->barrier) : PALDWOSK_NULL;
-    if (answer != PALDWOSK_DONE || paldwosk_next_at_seat(task, &answer, phase)) return answer;
-    (void)paldwosk_enter(task->barrier);
-    if (!paldwosk_can_come(task)) return paldwosk_call_entered(task, PALDWOSK_CALL_NEXT, 0, phase);
-    paldwosk_unlock(task->barrier);
+    paldwosk_answer answer = task ? paldwoski_may_enter(task->barrier) : PALDWOSK_NULL;
+    if (answer != PALDWOSK_DONE || paldwoski_next_at_seat(task, &answer, phase)) return answer;
+    (void)paldwoski_enter(task->barrier);
+    if (!paldwoski_can_come(task)) return paldwoski_call_entered(task, PALDWOSKI_CALL_NEXT, 0, phase);
+    paldwoski_unlock(task->barrier);
   }
 }
 #endif
 
 /* The call of a task that may have to wait, for so many milliseconds at most. */
-PALDWOSK_APART paldwosk_answer paldwosk_call_in_time(const paldwosk_task *task, uint32_t call, uint32_t single,
-                                                     uint32_t milliseconds, uint64_t *phase) {
-  paldwosk_answer entered = paldwosk_enter_by(task);
+PALDWOSKI_APART paldwosk_answer paldwoski_call_in_time(const paldwosk_task *task, uint32_t call, uint32_t single,
+                                                       uint32_t milliseconds, uint64_t *phase) {
+  paldwosk_answer entered = paldwoski_enter_by(task);
   if (entered != PALDWOSK_DONE) return entered;
-  struct paldwosk_sleeper me = paldwosk_new_sleeper(task->number, call, single);
-  paldwosk_settle(task);
-  paldwosk_begin_or_go_on(task, &me);
-  paldwosk_end_in_time(task->barrier, &me, milliseconds);
+  struct paldwoski_sleeper me = paldwoski_new_sleeper(task->number, call, single);
+  paldwoski_settle(task);
+  paldwoski_begin_or_go_on(task, &me);
+  paldwoski_end_in_time(task->barrier, &me, milliseconds);
   if (me.answer == PALDWOSK_DONE && phase) *phase = me.number;
   return (paldwosk_answer)me.answer;
 }
 
 /* With the lock: adds a task that the phaser has registered. */
-PALDWOSK_INLINE paldwosk_task paldwosk_new_task(paldwosk_barrier *barrier, uint64_t parent, uint32_t mode,
-                                                uint64_t number) {
+PALDWOSK_INLINE paldwosk_task paldwoski_new_task(paldwosk_barrier *barrier, uint64_t parent, uint32_t mode,
+                                                 uint64_t number) {
   paldwosk_task task = {barrier, number, 0};
-  paldwosk_add_member(barrier, parent, mode, number);
-  task.seat = paldwosk_add_seat(barrier, number);
+  paldwoski_add_member(barrier, parent, mode, number);
+  task.seat = paldwoski_add_seat(barrier, number);
   return task;
 }
 
 /* The task that has run its single reports that, and passes. */
-PALDWOSK_INLINE paldwosk_answer paldwosk_report_by(const paldwosk_task *task, uint64_t *phase) {
-  paldwosk_answer entered = paldwosk_enter_by(task);
+PALDWOSK_INLINE paldwosk_answer paldwoski_report_by(const paldwosk_task *task, uint64_t *phase) {
+  paldwosk_answer entered = paldwoski_enter_by(task);
   if (entered != PALDWOSK_DONE) return entered;
-  struct paldwosk_sleeper me = paldwosk_new_sleeper(task->number, PALDWOSK_CALL_WAIT, 0);
+  struct paldwoski_sleeper me = paldwoski_new_sleeper(task->number, PALDWOSKI_CALL_WAIT, 0);
   task->barrier->coming--;
-  paldwosk_report(task->barrier, &me);
-  if (me.answer == PALDWOSK_DONE) paldwosk_begin_call(task->barrier, &me);
-  paldwosk_end_call(task->barrier, &me);
+  paldwoski_report(task->barrier, &me);
+  if (me.answer == PALDWOSK_DONE) paldwoski_begin_call(task->barrier, &me);
+  paldwoski_end_call(task->barrier, &me);
   if (me.answer == PALDWOSK_DONE && phase) *phase = me.number;
   return (paldwosk_answer)me.answer;
 }
 
 /* What a single was answered. If the task has claimed it, it runs the statement. */
-PALDWOSK_INLINE paldwosk_answer paldwosk_run_claimed(const paldwosk_task *task, paldwosk_answer answer,
-                                                     void (*run)(void *data), void *data, uint64_t *phase) {
+PALDWOSK_INLINE paldwosk_answer paldwoski_run_claimed(const paldwosk_task *task, paldwosk_answer answer,
+                                                      void (*run)(void *data), void *data, uint64_t *phase) {
   int old = 0;
   if (answer != PALDWOSK_CLAIMED) return answer;
   pthread_setcancelstate(PTHREAD_CANCEL_DISABLE, &old);
   run(data);
   pthread_setcancelstate(old, &old);
-  return paldwosk_report_by(task, phase);
+  return paldwoski_report_by(task, phase);
 }
 
 /* ---- Making and freeing */
 
-PALDWOSK_INLINE struct paldwosk_trace *paldwosk_new_trace(uint32_t bound, const uint32_t *operators, size_t count) {
-  struct paldwosk_trace *trace = (struct paldwosk_trace *)calloc(1, sizeof *trace);
+PALDWOSK_INLINE struct paldwoski_trace *paldwoski_new_trace(uint32_t bound, const uint32_t *operators, size_t count) {
+  struct paldwoski_trace *trace = (struct paldwoski_trace *)calloc(1, sizeof *trace);
   if (!trace) return NULL;
   trace->bound = bound;
-  trace->room = PALDWOSK_TRACE_EVENTS;
+  trace->room = PALDWOSKI_TRACE_EVENTS;
   trace->operator_count = (uint32_t)count;
   for (size_t at = 0; at < count; at++) trace->operators[at] = operators[at];
   return trace;
 }
 
-#ifndef PALDWOSK_BY_FUTEX
-/* Timed waits at it are by the clock of paldwosk_now. */
-PALDWOSK_INLINE int paldwosk_init_cond(pthread_cond_t *cond) {
+#ifndef PALDWOSKI_BY_FUTEX
+/* Timed waits at it are by the clock of paldwoski_now. */
+PALDWOSK_INLINE int paldwoski_init_cond(pthread_cond_t *cond) {
 #ifdef __linux__
   pthread_condattr_t by;
   if (pthread_condattr_init(&by) != 0) return 0;
-  int is_made = pthread_condattr_setclock(&by, PALDWOSK_CLOCK) == 0 && pthread_cond_init(cond, &by) == 0;
+  int is_made = pthread_condattr_setclock(&by, PALDWOSKI_CLOCK) == 0 && pthread_cond_init(cond, &by) == 0;
   pthread_condattr_destroy(&by);
   return is_made;
 #else
@@ -2071,10 +2102,10 @@ PALDWOSK_INLINE int paldwosk_init_cond(pthread_cond_t *cond) {
 }
 #endif
 
-PALDWOSK_INLINE int paldwosk_init_lock(paldwosk_barrier *barrier) {
+PALDWOSK_INLINE int paldwoski_init_lock(paldwosk_barrier *barrier) {
   if (pthread_mutex_init(&barrier->lock, NULL) != 0) return 0;
-#ifndef PALDWOSK_BY_FUTEX
-  if (!paldwosk_init_cond(&barrier->turned)) {
+#ifndef PALDWOSKI_BY_FUTEX
+  if (!paldwoski_init_cond(&barrier->turned)) {
     pthread_mutex_destroy(&barrier->lock);
     return 0;
   }
@@ -2082,76 +2113,76 @@ PALDWOSK_INLINE int paldwosk_init_lock(paldwosk_barrier *barrier) {
   return 1;
 }
 
-PALDWOSK_INLINE void paldwosk_destroy_lock(paldwosk_barrier *barrier) {
-#ifndef PALDWOSK_BY_FUTEX
+PALDWOSK_INLINE void paldwoski_destroy_lock(paldwosk_barrier *barrier) {
+#ifndef PALDWOSKI_BY_FUTEX
   pthread_cond_destroy(&barrier->turned);
 #endif
   pthread_mutex_destroy(&barrier->lock);
 }
 
 /* What a barrier has besides its phaser, its trace and its lock. */
-PALDWOSK_INLINE void paldwosk_open(paldwosk_barrier *barrier) {
+PALDWOSK_INLINE void paldwoski_open(paldwosk_barrier *barrier) {
   long processors = sysconf(_SC_NPROCESSORS_ONLN);
   barrier->to_wake = barrier->coming = barrier->tasks = barrier->tries.waits = 0;
   barrier->inside = barrier->pauses = 0;
-  barrier->tries.probe = barrier->probe_after = PALDWOSK_PROBE_AFTER;
+  barrier->tries.probe = barrier->probe_after = PALDWOSKI_PROBE_AFTER;
   barrier->processors = processors > 0 ? (uint32_t)processors : 1;
   barrier->most_pauses = PALDWOSK_MOST_PAUSES;
-  barrier->watch = paldwosk_watch_of_environment();
-  barrier->credit = PALDWOSK_MOST_CREDIT;
+  barrier->watch = paldwoski_watch_of_environment();
+  barrier->credit = PALDWOSKI_MOST_CREDIT;
   barrier->first = NULL;
   barrier->last = &barrier->first;
   barrier->overdue = NULL;
   barrier->spare = barrier->room;
-  for (int at = 0; at < PALDWOSK_MOST_MEMBERS - 1; at++) barrier->room[at].next = &barrier->room[at + 1];
-  paldwosk_open_turn(barrier);
-  barrier->forks_then = __atomic_load_n(&paldwosk_forks, __ATOMIC_RELAXED);
-  barrier->forks = &paldwosk_forks;
+  for (int at = 0; at < PALDWOSKI_MOST_MEMBERS - 1; at++) barrier->room[at].next = &barrier->room[at + 1];
+  paldwoski_open_turn(barrier);
+  barrier->forks_then = __atomic_load_n(&paldwoski_forks, __ATOMIC_RELAXED);
+  barrier->forks = &paldwoski_forks;
 }
 
-PALDWOSK_INLINE void paldwosk_free_memory(paldwosk_barrier *barrier) {
+PALDWOSK_INLINE void paldwoski_free_memory(paldwosk_barrier *barrier) {
   free(barrier->members);
   free(barrier->room);
   free(barrier->trace);
-  paldwosk_free_rounds(barrier);
+  paldwoski_free_rounds(barrier);
   barrier->members = NULL;
   barrier->room = NULL;
   barrier->trace = NULL;
 }
 
-PALDWOSK_INLINE paldwosk_answer paldwosk_new_barrier(paldwosk_barrier *barrier, uint32_t bound,
-                                                     const paldwosk_operator *operators, size_t count, int is_traced) {
+PALDWOSK_INLINE paldwosk_answer paldwoski_new_barrier(paldwosk_barrier *barrier, uint32_t bound,
+                                                      const paldwosk_operator *operators, size_t count, int is_traced) {
   uint32_t numbers[4] = {0, 0, 0, 0};
   if (!barrier || (!operators && count)) return PALDWOSK_NULL;
-  if (barrier->forks) return paldwosk_is_inherited(barrier) ? PALDWOSK_CLOSED : PALDWOSK_OPEN;
+  if (barrier->forks) return paldwoski_is_inherited(barrier) ? PALDWOSK_CLOSED : PALDWOSK_OPEN;
   for (size_t at = 0; at < count && at < 4; at++) numbers[at] = (uint32_t)operators[at];
   if (count > 4) numbers[0] = 99; /* no operator's: refused in its turn */
-  if (pthread_once(&paldwosk_forks_once, paldwosk_watch_forks) || paldwosk_are_forks_missed) return PALDWOSK_MEMORY;
+  if (pthread_once(&paldwoski_forks_once, paldwoski_watch_forks) || paldwoski_are_forks_missed) return PALDWOSK_MEMORY;
   (void)phaser_c_abi_1();
   paldwosk_answer made = (paldwosk_answer)phaser_c_waiting_new(&barrier->phaser, numbers, count > 4 ? 4 : count, bound);
   if (made != PALDWOSK_DONE) return made;
   barrier->bound = bound;
   barrier->accumulators = (uint32_t)count;
-  barrier->members = (struct paldwosk_member *)calloc(PALDWOSK_MEMBER_PLACES, sizeof *barrier->members);
-  barrier->room = (struct paldwosk_overdue *)calloc(PALDWOSK_MOST_MEMBERS, sizeof *barrier->room);
-  barrier->trace = is_traced ? paldwosk_new_trace(bound, numbers, count) : NULL;
-  int has_room = paldwosk_new_rounds(barrier) && barrier->members && barrier->room && (barrier->trace || !is_traced);
-  if (!has_room || !paldwosk_init_lock(barrier)) {
-    paldwosk_free_memory(barrier);
+  barrier->members = (struct paldwoski_member *)calloc(PALDWOSKI_MEMBER_PLACES, sizeof *barrier->members);
+  barrier->room = (struct paldwoski_overdue *)calloc(PALDWOSKI_MOST_MEMBERS, sizeof *barrier->room);
+  barrier->trace = is_traced ? paldwoski_new_trace(bound, numbers, count) : NULL;
+  int has_room = paldwoski_new_rounds(barrier) && barrier->members && barrier->room && (barrier->trace || !is_traced);
+  if (!has_room || !paldwoski_init_lock(barrier)) {
+    paldwoski_free_memory(barrier);
     phaser_c_waiting_free(&barrier->phaser);
     return PALDWOSK_MEMORY;
   }
-  paldwosk_open(barrier);
+  paldwoski_open(barrier);
   return PALDWOSK_DONE;
 }
 
 /* The same if there is no barrier, whatever the memory has. */
-PALDWOSK_INLINE paldwosk_answer paldwosk_init_barrier(paldwosk_barrier *barrier, uint32_t bound,
-                                                      const paldwosk_operator *operators, size_t count, int is_traced) {
+PALDWOSK_INLINE paldwosk_answer paldwoski_init_barrier(paldwosk_barrier *barrier, uint32_t bound,
+                                                       const paldwosk_operator *operators, size_t count, int is_traced) {
   static const paldwosk_barrier none = PALDWOSK_NO_BARRIER;
   if (!barrier || (!operators && count)) return PALDWOSK_NULL;
   *barrier = none;
-  return paldwosk_new_barrier(barrier, bound, operators, count, is_traced);
+  return paldwoski_new_barrier(barrier, bound, operators, count, is_traced);
 }
 
 /* ---- The barrier */
@@ -2165,14 +2196,14 @@ PALDWOSK_INLINE paldwosk_answer paldwosk_init_barrier(paldwosk_barrier *barrier,
 PALDWOSK_MUST_CHECK
 PALDWOSK_INLINE paldwosk_answer paldwosk_barrier_new(paldwosk_barrier *barrier, uint32_t bound,
                                                      const paldwosk_operator *operators, size_t count) {
-  return paldwosk_new_barrier(barrier, bound, operators, count, 0);
+  return paldwoski_new_barrier(barrier, bound, operators, count, 0);
 }
 
 /* As paldwosk_barrier_new, and it keeps a trace of what is done, for paldwosk_barrier_trace. That takes some 1 MB. */
 PALDWOSK_MUST_CHECK
 PALDWOSK_INLINE paldwosk_answer paldwosk_barrier_new_traced(paldwosk_barrier *barrier, uint32_t bound,
                                                             const paldwosk_operator *operators, size_t count) {
-  return paldwosk_new_barrier(barrier, bound, operators, count, 1);
+  return paldwoski_new_barrier(barrier, bound, operators, count, 1);
 }
 
 /* As paldwosk_barrier_new, but it doesn't read the memory, as pthread_barrier_init doesn't: use it for memory of malloc.
@@ -2184,14 +2215,14 @@ PALDWOSK_INLINE paldwosk_answer paldwosk_barrier_new_traced(paldwosk_barrier *ba
 PALDWOSK_MUST_CHECK
 PALDWOSK_INLINE paldwosk_answer paldwosk_barrier_init(paldwosk_barrier *barrier, uint32_t bound,
                                                       const paldwosk_operator *operators, size_t count) {
-  return paldwosk_init_barrier(barrier, bound, operators, count, 0);
+  return paldwoski_init_barrier(barrier, bound, operators, count, 0);
 }
 
 /* As paldwosk_barrier_init, and it keeps a trace as paldwosk_barrier_new_traced does. */
 PALDWOSK_MUST_CHECK
 PALDWOSK_INLINE paldwosk_answer paldwosk_barrier_init_traced(paldwosk_barrier *barrier, uint32_t bound,
                                                              const paldwosk_operator *operators, size_t count) {
-  return paldwosk_init_barrier(barrier, bound, operators, count, 1);
+  return paldwoski_init_barrier(barrier, bound, operators, count, 1);
 }
 
 /* Frees the barrier. NOT_NOW if a task waits, also by a call whose time is over, or runs a single, or is to. A thread
@@ -2200,20 +2231,20 @@ PALDWOSK_INLINE paldwosk_answer paldwosk_barrier_init_traced(paldwosk_barrier *b
 PALDWOSK_MUST_CHECK
 PALDWOSK_INLINE paldwosk_answer paldwosk_barrier_free(paldwosk_barrier *barrier) {
   for (uint32_t tried = 0;; tried++) {
-    paldwosk_answer entered = paldwosk_enter(barrier);
+    paldwosk_answer entered = paldwoski_enter(barrier);
     if (entered != PALDWOSK_DONE) return entered;
-    int is_busy = barrier->first || barrier->coming || paldwosk_has_come(barrier);
-    int is_left = __atomic_load_n(&barrier->inside, __ATOMIC_ACQUIRE) == 0 && paldwosk_are_seats_left(barrier);
+    int is_busy = barrier->first || barrier->coming || paldwoski_has_come(barrier);
+    int is_left = __atomic_load_n(&barrier->inside, __ATOMIC_ACQUIRE) == 0 && paldwoski_are_seats_left(barrier);
     if (!is_busy && is_left) break;
-    paldwosk_unlock(barrier);
+    paldwoski_unlock(barrier);
     if (is_busy) return PALDWOSK_NOT_NOW;
-    paldwosk_let_others_run(tried);
+    paldwoski_let_others_run(tried);
   }
   phaser_c_waiting_free(&barrier->phaser);
-  paldwosk_free_memory(barrier);
+  paldwoski_free_memory(barrier);
   barrier->forks = NULL;
   pthread_mutex_unlock(&barrier->lock);
-  paldwosk_destroy_lock(barrier);
+  paldwoski_destroy_lock(barrier);
   return PALDWOSK_DONE;
 }
 
@@ -2221,15 +2252,15 @@ PALDWOSK_INLINE paldwosk_answer paldwosk_barrier_free(paldwosk_barrier *barrier)
 PALDWOSK_MUST_CHECK
 PALDWOSK_INLINE paldwosk_answer paldwosk_barrier_make(paldwosk_barrier *barrier, paldwosk_mode mode,
                                                       paldwosk_task *task) {
-  paldwosk_answer answer = task ? paldwosk_enter(barrier) : PALDWOSK_NULL;
+  paldwosk_answer answer = task ? paldwoski_enter(barrier) : PALDWOSK_NULL;
   if (answer != PALDWOSK_DONE) return answer;
   uint64_t number = 0;
   answer = (paldwosk_answer)phaser_c_waiting_make(&barrier->phaser, (uint32_t)mode, &number);
   if (answer == PALDWOSK_DONE) {
-    if (barrier->trace) paldwosk_trace_new_task(barrier->trace, number, (uint32_t)mode, number);
-    *task = paldwosk_new_task(barrier, number, (uint32_t)mode, number);
+    if (barrier->trace) paldwoski_trace_new_task(barrier->trace, number, (uint32_t)mode, number);
+    *task = paldwoski_new_task(barrier, number, (uint32_t)mode, number);
   }
-  paldwosk_unlock(barrier);
+  paldwoski_unlock(barrier);
   return answer;
 }
 
@@ -2239,17 +2270,17 @@ PALDWOSK_INLINE paldwosk_answer paldwosk_barrier_make(paldwosk_barrier *barrier,
 PALDWOSK_MUST_CHECK
 PALDWOSK_INLINE paldwosk_answer paldwosk_barrier_join(const paldwosk_task *parent, paldwosk_mode mode,
                                                       paldwosk_task *task) {
-  paldwosk_answer answer = task ? paldwosk_enter_by(parent) : PALDWOSK_NULL;
+  paldwosk_answer answer = task ? paldwoski_enter_by(parent) : PALDWOSK_NULL;
   if (answer != PALDWOSK_DONE) return answer;
   paldwosk_barrier *barrier = parent->barrier;
   uint64_t number = 0;
-  paldwosk_claim_to_join(parent, (uint32_t)mode);
+  paldwoski_claim_to_join(parent, (uint32_t)mode);
   answer = (paldwosk_answer)phaser_c_waiting_register(&barrier->phaser, parent->number, (uint32_t)mode, &number);
   if (answer == PALDWOSK_DONE) {
-    if (barrier->trace) paldwosk_trace_new_task(barrier->trace, parent->number, (uint32_t)mode, number);
-    *task = paldwosk_new_task(barrier, parent->number, (uint32_t)mode, number);
+    if (barrier->trace) paldwoski_trace_new_task(barrier->trace, parent->number, (uint32_t)mode, number);
+    *task = paldwoski_new_task(barrier, parent->number, (uint32_t)mode, number);
   }
-  paldwosk_unlock(barrier);
+  paldwoski_unlock(barrier);
   return answer;
 }
 
@@ -2258,10 +2289,10 @@ PALDWOSK_INLINE paldwosk_answer paldwosk_barrier_join(const paldwosk_task *paren
  * HISTORY_FULL. */
 PALDWOSK_MUST_CHECK
 PALDWOSK_INLINE paldwosk_answer paldwosk_barrier_next(const paldwosk_task *task, uint64_t *phase) {
-#ifdef PALDWOSK_IN_ROUNDS
-  return paldwosk_next_by(task, phase);
+#ifdef PALDWOSKI_IN_ROUNDS
+  return paldwoski_next_by(task, phase);
 #else
-  return paldwosk_call_by(task, PALDWOSK_CALL_NEXT, 0, phase);
+  return paldwoski_call_by(task, PALDWOSKI_CALL_NEXT, 0, phase);
 #endif
 }
 
@@ -2269,7 +2300,7 @@ PALDWOSK_INLINE paldwosk_answer paldwosk_barrier_next(const paldwosk_task *task,
  * NOT_REGISTERED, NO_SIGNAL, ALREADY_SIGNALLED, NOT_NOW, HISTORY_FULL. */
 PALDWOSK_MUST_CHECK
 PALDWOSK_INLINE paldwosk_answer paldwosk_barrier_signal(const paldwosk_task *task) {
-  return paldwosk_call_by(task, PALDWOSK_CALL_SIGNAL, 0, NULL);
+  return paldwoski_call_by(task, PALDWOSKI_CALL_SIGNAL, 0, NULL);
 }
 
 /* Waits until the phase that the task has signalled is over; if the task only waits, the phase that it hasn't waited
@@ -2278,23 +2309,23 @@ PALDWOSK_INLINE paldwosk_answer paldwosk_barrier_signal(const paldwosk_task *tas
  * HISTORY_FULL. */
 PALDWOSK_MUST_CHECK
 PALDWOSK_INLINE paldwosk_answer paldwosk_barrier_wait(const paldwosk_task *task, uint64_t *phase) {
-  return paldwosk_call_by(task, PALDWOSK_CALL_WAIT, 0, phase);
+  return paldwoski_call_by(task, PALDWOSKI_CALL_WAIT, 0, phase);
 }
 
 /* Sends a value to an accumulator, for the phase that the task hasn't signalled yet. NOT_REGISTERED, NO_SIGNAL,
  * NO_ACCUMULATOR, HISTORY_FULL. */
 PALDWOSK_MUST_CHECK
 PALDWOSK_INLINE paldwosk_answer paldwosk_barrier_send(const paldwosk_task *task, uint32_t accumulator, int32_t value) {
-  paldwosk_answer answer = task ? paldwosk_may_enter(task->barrier) : PALDWOSK_NULL;
+  paldwosk_answer answer = task ? paldwoski_may_enter(task->barrier) : PALDWOSK_NULL;
   uint8_t index = accumulator < 255 ? (uint8_t)accumulator : 255; /* there are four at most */
-  if (answer != PALDWOSK_DONE || paldwosk_keep_send(task, index, value)) return answer;
+  if (answer != PALDWOSK_DONE || paldwoski_keep_send(task, index, value)) return answer;
   paldwosk_barrier *barrier = task->barrier;
-  (void)paldwosk_enter(barrier);
-  paldwosk_claim(task);
+  (void)paldwoski_enter(barrier);
+  paldwoski_claim(task);
   answer = (paldwosk_answer)phaser_c_waiting_send(&barrier->phaser, task->number, index, value);
   if (answer == PALDWOSK_DONE && barrier->trace)
-    paldwosk_trace_act(barrier->trace, PALDWOSK_EVENT_SEND, task->number, index, value);
-  paldwosk_unlock(barrier);
+    paldwoski_trace_act(barrier->trace, PALDWOSKI_EVENT_SEND, task->number, index, value);
+  paldwoski_unlock(barrier);
   return answer;
 }
 
@@ -2303,20 +2334,20 @@ PALDWOSK_INLINE paldwosk_answer paldwosk_barrier_send(const paldwosk_task *task,
  * NOT_REGISTERED, NO_WAIT, NO_ACCUMULATOR, NO_PHASE_YET, HISTORY_FULL. */
 PALDWOSK_MUST_CHECK
 PALDWOSK_INLINE paldwosk_answer paldwosk_barrier_look(const paldwosk_task *task, uint32_t accumulator, int64_t *value) {
-  paldwosk_answer answer = task && value ? paldwosk_may_enter(task->barrier) : PALDWOSK_NULL;
+  paldwosk_answer answer = task && value ? paldwoski_may_enter(task->barrier) : PALDWOSK_NULL;
   uint8_t index = accumulator < 255 ? (uint8_t)accumulator : 255;
-  if (answer != PALDWOSK_DONE || paldwosk_look_at_fold(task, index, value, &answer)) return answer;
+  if (answer != PALDWOSK_DONE || paldwoski_look_at_fold(task, index, value, &answer)) return answer;
   paldwosk_barrier *barrier = task->barrier;
   int64_t seen = 0;
-  (void)paldwosk_enter(barrier);
+  (void)paldwoski_enter(barrier);
   answer = (paldwosk_answer)phaser_c_waiting_look(&barrier->phaser, task->number, index, &seen);
   if (answer == PALDWOSK_DONE) *value = seen;
   if (barrier->trace && answer == PALDWOSK_DONE)
-    paldwosk_trace_act(barrier->trace, PALDWOSK_EVENT_LOOK, task->number, index, seen);
+    paldwoski_trace_act(barrier->trace, PALDWOSKI_EVENT_LOOK, task->number, index, seen);
   if (barrier->trace && answer == PALDWOSK_NOTHING)
-    paldwosk_trace_act(barrier->trace, PALDWOSK_EVENT_LOOK_AT_NOTHING, task->number, index, 0);
-  paldwosk_want_fold(barrier, index, answer);
-  paldwosk_unlock(barrier);
+    paldwoski_trace_act(barrier->trace, PALDWOSKI_EVENT_LOOK_AT_NOTHING, task->number, index, 0);
+  paldwoski_want_fold(barrier, index, answer);
+  paldwoski_unlock(barrier);
   return answer;
 }
 
@@ -2330,8 +2361,8 @@ PALDWOSK_INLINE paldwosk_answer paldwosk_barrier_single(const paldwosk_task *tas
                                                         void (*run)(void *data), void *data, uint64_t *phase) {
   if (!task || !run) return PALDWOSK_NULL;
   paldwosk_task mine = *task;
-  paldwosk_answer answer = paldwosk_call_by(&mine, PALDWOSK_CALL_SINGLE, number, phase);
-  return paldwosk_run_claimed(&mine, answer, run, data, phase);
+  paldwosk_answer answer = paldwoski_call_by(&mine, PALDWOSKI_CALL_SINGLE, number, phase);
+  return paldwoski_run_claimed(&mine, answer, run, data, phase);
 }
 
 /* ---- The same calls, with a time. What that means stands at the head: WAITS WITH A TIME. Each answers what the call
@@ -2342,39 +2373,39 @@ PALDWOSK_INLINE paldwosk_answer paldwosk_barrier_single(const paldwosk_task *tas
 PALDWOSK_MUST_CHECK
 PALDWOSK_INLINE paldwosk_answer paldwosk_barrier_next_for(const paldwosk_task *task, uint32_t milliseconds,
                                                           uint64_t *phase) {
-  return paldwosk_call_in_time(task, PALDWOSK_CALL_NEXT, 0, milliseconds, phase);
+  return paldwoski_call_in_time(task, PALDWOSKI_CALL_NEXT, 0, milliseconds, phase);
 }
 
 /* paldwosk_barrier_next, which doesn't wait. TIMED_OUT: the task has signalled, or will. */
 PALDWOSK_MUST_CHECK
 PALDWOSK_INLINE paldwosk_answer paldwosk_barrier_try_next(const paldwosk_task *task, uint64_t *phase) {
-  return paldwosk_call_in_time(task, PALDWOSK_CALL_NEXT, 0, 0, phase);
+  return paldwoski_call_in_time(task, PALDWOSKI_CALL_NEXT, 0, 0, phase);
 }
 
 /* paldwosk_barrier_signal, which waits for so many milliseconds at most. TIMED_OUT: it will signal, once the bound lets
  * it. */
 PALDWOSK_MUST_CHECK
 PALDWOSK_INLINE paldwosk_answer paldwosk_barrier_signal_for(const paldwosk_task *task, uint32_t milliseconds) {
-  return paldwosk_call_in_time(task, PALDWOSK_CALL_SIGNAL, 0, milliseconds, NULL);
+  return paldwoski_call_in_time(task, PALDWOSKI_CALL_SIGNAL, 0, milliseconds, NULL);
 }
 
 /* paldwosk_barrier_signal, which doesn't wait. TIMED_OUT: it will signal, once the bound lets it. */
 PALDWOSK_MUST_CHECK
 PALDWOSK_INLINE paldwosk_answer paldwosk_barrier_try_signal(const paldwosk_task *task) {
-  return paldwosk_call_in_time(task, PALDWOSK_CALL_SIGNAL, 0, 0, NULL);
+  return paldwoski_call_in_time(task, PALDWOSKI_CALL_SIGNAL, 0, 0, NULL);
 }
 
 /* paldwosk_barrier_wait, which waits for so many milliseconds at most. TIMED_OUT. */
 PALDWOSK_MUST_CHECK
 PALDWOSK_INLINE paldwosk_answer paldwosk_barrier_wait_for(const paldwosk_task *task, uint32_t milliseconds,
                                                           uint64_t *phase) {
-  return paldwosk_call_in_time(task, PALDWOSK_CALL_WAIT, 0, milliseconds, phase);
+  return paldwoski_call_in_time(task, PALDWOSKI_CALL_WAIT, 0, milliseconds, phase);
 }
 
 /* paldwosk_barrier_wait, which doesn't wait: whether the phase is over. TIMED_OUT if it isn't. */
 PALDWOSK_MUST_CHECK
 PALDWOSK_INLINE paldwosk_answer paldwosk_barrier_try_wait(const paldwosk_task *task, uint64_t *phase) {
-  return paldwosk_call_in_time(task, PALDWOSK_CALL_WAIT, 0, 0, phase);
+  return paldwoski_call_in_time(task, PALDWOSKI_CALL_WAIT, 0, 0, phase);
 }
 
 /* paldwosk_barrier_single, which waits for so many milliseconds at most, and then for its statement if it runs that.
@@ -2386,8 +2417,8 @@ PALDWOSK_INLINE paldwosk_answer paldwosk_barrier_single_for(const paldwosk_task 
                                                             uint64_t *phase) {
   if (!task || !run) return PALDWOSK_NULL;
   paldwosk_task mine = *task;
-  paldwosk_answer answer = paldwosk_call_in_time(&mine, PALDWOSK_CALL_SINGLE, number, milliseconds, phase);
-  return paldwosk_run_claimed(&mine, answer, run, data, phase);
+  paldwosk_answer answer = paldwoski_call_in_time(&mine, PALDWOSKI_CALL_SINGLE, number, milliseconds, phase);
+  return paldwoski_run_claimed(&mine, answer, run, data, phase);
 }
 
 /* paldwosk_barrier_single, which doesn't wait, but runs its statement if that is its turn. TIMED_OUT as of
@@ -2405,12 +2436,12 @@ PALDWOSK_INLINE paldwosk_answer paldwosk_barrier_try_single(const paldwosk_task 
  * answered NOT_REGISTERED. */
 PALDWOSK_MUST_CHECK
 PALDWOSK_INLINE paldwosk_answer paldwosk_barrier_leave(const paldwosk_task *task) {
-  paldwosk_answer entered = paldwosk_enter_by(task);
+  paldwosk_answer entered = paldwoski_enter_by(task);
   if (entered != PALDWOSK_DONE) return entered;
-  struct paldwosk_sleeper me = paldwosk_new_sleeper(task->number, PALDWOSK_CALL_WAIT, 0);
-  paldwosk_claim_to_leave(task);
-  paldwosk_ask_to_leave(task->barrier, &me);
-  paldwosk_end_call(task->barrier, &me);
+  struct paldwoski_sleeper me = paldwoski_new_sleeper(task->number, PALDWOSKI_CALL_WAIT, 0);
+  paldwoski_claim_to_leave(task);
+  paldwoski_ask_to_leave(task->barrier, &me);
+  paldwoski_end_call(task->barrier, &me);
   return (paldwosk_answer)me.answer;
 }
 
@@ -2427,15 +2458,13 @@ PALDWOSK_INLINE paldwosk_answer paldwosk_barrier_leave(const paldwosk_task *task
 PALDWOSK_MUST_CHECK
 PALDWOSK_INLINE paldwosk_answer paldwosk_barrier_missing(paldwosk_barrier *barrier, uint64_t *tasks, size_t room,
                                                          size_t *count) {
-  uint64_t missing[PALDWOSK_MOST_MEMBERS];
-  paldwosk_answer answer = count && (tasks || !room) ? paldwosk_enter(barrier) : PALDWOSK_NULL;
+  paldwosk_answer answer = count && (tasks || !room) ? paldwoski_enter(barrier) : PALDWOSK_NULL;
   if (answer != PALDWOSK_DONE) return answer;
-  paldwosk_go_slow(barrier);
-  *count = paldwosk_find_missing(barrier, missing);
-  paldwosk_unlock(barrier);
-  if (*count > room) return PALDWOSK_SHORT;
-  for (size_t at = 0; at < *count; at++) tasks[at] = missing[at];
-  return PALDWOSK_DONE;
+  paldwoski_go_slow(barrier);
+  *count = paldwoski_write_missing(barrier, tasks, room);
+  answer = *count > room ? PALDWOSK_SHORT : PALDWOSK_DONE;
+  paldwoski_unlock(barrier);
+  return answer;
 }
 
 /* For how many pauses of the processor a thread spins at most before it yields and then sleeps. A new barrier has
@@ -2445,12 +2474,12 @@ PALDWOSK_INLINE paldwosk_answer paldwosk_barrier_missing(paldwosk_barrier *barri
  * variable. */
 PALDWOSK_MUST_CHECK
 PALDWOSK_INLINE paldwosk_answer paldwosk_barrier_spin(paldwosk_barrier *barrier, uint32_t most) {
-  paldwosk_answer answer = paldwosk_enter(barrier);
+  paldwosk_answer answer = paldwoski_enter(barrier);
   if (answer != PALDWOSK_DONE) return answer;
   if (most > UINT32_MAX / 4) most = UINT32_MAX / 4;
   __atomic_store_n(&barrier->most_pauses, most, __ATOMIC_RELAXED);
   __atomic_store_n(&barrier->pauses, 0, __ATOMIC_RELAXED);
-  paldwosk_unlock(barrier);
+  paldwoski_unlock(barrier);
   return PALDWOSK_DONE;
 }
 
@@ -2463,12 +2492,12 @@ PALDWOSK_INLINE paldwosk_answer paldwosk_barrier_spin(paldwosk_barrier *barrier,
 PALDWOSK_MUST_CHECK
 PALDWOSK_INLINE paldwosk_answer paldwosk_barrier_trace(paldwosk_barrier *barrier, char *text, size_t room,
                                                        size_t *written) {
-  paldwosk_answer answer = written && (text || !room) ? paldwosk_enter(barrier) : PALDWOSK_NULL;
+  paldwosk_answer answer = written && (text || !room) ? paldwoski_enter(barrier) : PALDWOSK_NULL;
   if (answer != PALDWOSK_DONE) return answer;
   if (!barrier->trace) answer = PALDWOSK_NOT_KEPT;
-  else if ((*written = paldwosk_text_whole(barrier->trace, NULL)) > room) answer = PALDWOSK_SHORT;
-  else paldwosk_text_whole(barrier->trace, text);
-  paldwosk_unlock(barrier);
+  else if ((*written = paldwoski_text_whole(barrier->trace, NULL)) > room) answer = PALDWOSK_SHORT;
+  else paldwoski_text_whole(barrier->trace, text);
+  paldwoski_unlock(barrier);
   return answer;
 }
 
@@ -2476,9 +2505,9 @@ PALDWOSK_INLINE paldwosk_answer paldwosk_barrier_trace(paldwosk_barrier *barrier
  * number over 4,095, or what no trace can tell: that a task sends, looks or joins another in the statement of its
  * single. */
 PALDWOSK_INLINE int paldwosk_barrier_trace_ended(paldwosk_barrier *barrier) {
-  if (paldwosk_enter(barrier) != PALDWOSK_DONE) return 0;
+  if (paldwoski_enter(barrier) != PALDWOSK_DONE) return 0;
   int has_ended = barrier->trace && barrier->trace->has_ended;
-  paldwosk_unlock(barrier);
+  paldwoski_unlock(barrier);
   return has_ended;
 }
 

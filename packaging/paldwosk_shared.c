@@ -6,7 +6,7 @@
  * pointer, a number of 64 bits and one of 32. A barrier is used by these functions alone, or by those of one header
  * alone.
  *
- * Tested by tests/packages, not proved. */
+ * Tested by tests/packages and tests/python_package, not proved. */
 #include "paldwosk_barrier.h"
 
 #pragma GCC visibility push(default)
@@ -51,18 +51,28 @@ paldwosk_answer paldwosk_so_barrier_next_for(const paldwosk_task *task, uint32_t
   return paldwosk_barrier_next_for(task, milliseconds, phase);
 }
 
+paldwosk_answer paldwosk_so_barrier_try_next(const paldwosk_task *task, uint64_t *phase) {
+  return paldwosk_barrier_try_next(task, phase);
+}
+
 paldwosk_answer paldwosk_so_barrier_signal(const paldwosk_task *task) { return paldwosk_barrier_signal(task); }
 
 paldwosk_answer paldwosk_so_barrier_signal_for(const paldwosk_task *task, uint32_t milliseconds) {
   return paldwosk_barrier_signal_for(task, milliseconds);
 }
 
+paldwosk_answer paldwosk_so_barrier_try_signal(const paldwosk_task *task) { return paldwosk_barrier_try_signal(task); }
+
+paldwosk_answer paldwosk_so_barrier_wait(const paldwosk_task *task, uint64_t *phase) {
+  return paldwosk_barrier_wait(task, phase);
+}
+
 paldwosk_answer paldwosk_so_barrier_wait_for(const paldwosk_task *task, uint32_t milliseconds, uint64_t *phase) {
   return paldwosk_barrier_wait_for(task, milliseconds, phase);
 }
 
-paldwosk_answer paldwosk_so_barrier_wait(const paldwosk_task *task, uint64_t *phase) {
-  return paldwosk_barrier_wait(task, phase);
+paldwosk_answer paldwosk_so_barrier_try_wait(const paldwosk_task *task, uint64_t *phase) {
+  return paldwosk_barrier_try_wait(task, phase);
 }
 
 paldwosk_answer paldwosk_so_barrier_send(const paldwosk_task *task, uint32_t accumulator, int32_t value) {
@@ -76,6 +86,16 @@ paldwosk_answer paldwosk_so_barrier_look(const paldwosk_task *task, uint32_t acc
 paldwosk_answer paldwosk_so_barrier_single(const paldwosk_task *task, uint32_t number, void (*run)(void *data),
                                            void *data, uint64_t *phase) {
   return paldwosk_barrier_single(task, number, run, data, phase);
+}
+
+paldwosk_answer paldwosk_so_barrier_single_for(const paldwosk_task *task, uint32_t number, uint32_t milliseconds,
+                                               void (*run)(void *data), void *data, uint64_t *phase) {
+  return paldwosk_barrier_single_for(task, number, milliseconds, run, data, phase);
+}
+
+paldwosk_answer paldwosk_so_barrier_try_single(const paldwosk_task *task, uint32_t number, void (*run)(void *data),
+                                               void *data, uint64_t *phase) {
+  return paldwosk_barrier_try_single(task, number, run, data, phase);
 }
 
 paldwosk_answer paldwosk_so_barrier_leave(const paldwosk_task *task) { return paldwosk_barrier_leave(task); }
@@ -114,6 +134,70 @@ paldwosk_answer paldwosk_so_judge_event(paldwosk_judge *judge, const paldwosk_ju
 
 paldwosk_answer paldwosk_so_judge_totals(paldwosk_judge *judge, paldwosk_judged_totals *totals) {
   return paldwosk_judge_totals(judge, totals);
+}
+
+paldwosk_answer paldwosk_so_new(paldwosk_phaser *phaser, const paldwosk_limits *limits,
+                                const paldwosk_operator *operators, size_t count, uint32_t bound) {
+  return paldwosk_new(phaser, limits, operators, count, bound);
+}
+
+void paldwosk_so_free(paldwosk_phaser *phaser) { paldwosk_free(phaser); }
+
+paldwosk_answer paldwosk_so_make(paldwosk_phaser *phaser, uint32_t task, paldwosk_mode mode) {
+  return paldwosk_make(phaser, task, mode);
+}
+
+paldwosk_answer paldwosk_so_register(paldwosk_phaser *phaser, uint32_t parent, uint32_t child, paldwosk_mode mode) {
+  return paldwosk_register(phaser, parent, child, mode);
+}
+
+paldwosk_answer paldwosk_so_signal(paldwosk_phaser *phaser, uint32_t task) { return paldwosk_signal(phaser, task); }
+
+paldwosk_answer paldwosk_so_signal_single(paldwosk_phaser *phaser, uint32_t task, uint32_t number) {
+  return paldwosk_signal_single(phaser, task, number);
+}
+
+paldwosk_answer paldwosk_so_pass(paldwosk_phaser *phaser, uint32_t task, uint32_t *number) {
+  return paldwosk_pass(phaser, task, number);
+}
+
+paldwosk_answer paldwosk_so_single_done(paldwosk_phaser *phaser, uint32_t task) {
+  return paldwosk_single_done(phaser, task);
+}
+
+paldwosk_answer paldwosk_so_send(paldwosk_phaser *phaser, uint32_t task, uint32_t accumulator, int32_t value) {
+  return paldwosk_send(phaser, task, accumulator, value);
+}
+
+paldwosk_answer paldwosk_so_look(paldwosk_phaser *phaser, uint32_t task, uint32_t accumulator, int64_t *value) {
+  return paldwosk_look(phaser, task, accumulator, value);
+}
+
+paldwosk_answer paldwosk_so_drop(paldwosk_phaser *phaser, uint32_t task) { return paldwosk_drop(phaser, task); }
+
+paldwosk_answer paldwosk_so_is_closed(paldwosk_phaser *phaser, uint32_t phase, uint32_t *closed) {
+  return paldwosk_is_closed(phaser, phase, closed);
+}
+
+paldwosk_answer paldwosk_so_is_full(paldwosk_phaser *phaser, uint32_t *full) {
+  return paldwosk_is_full(phaser, full);
+}
+
+paldwosk_answer paldwosk_so_fold_at(paldwosk_phaser *phaser, uint32_t accumulator, uint32_t phase, int64_t *value) {
+  return paldwosk_fold_at(phaser, accumulator, phase, value);
+}
+
+paldwosk_answer paldwosk_so_compared(paldwosk_phaser *phaser, uint32_t *count) {
+  return paldwosk_compared(phaser, count);
+}
+
+paldwosk_answer paldwosk_so_event_count(paldwosk_phaser *phaser, uint32_t *count) {
+  return paldwosk_event_count(phaser, count);
+}
+
+paldwosk_answer paldwosk_so_history_text(paldwosk_phaser *phaser, uint32_t number, const uint64_t *tickets,
+                                         size_t count, char *text, size_t room, size_t *written) {
+  return paldwosk_history_text(phaser, number, tickets, count, text, room, written);
 }
 
 #pragma GCC visibility pop

@@ -27,6 +27,7 @@
  * waiting uneven THREADS PHASES MOST: the same with signals, waits and times, so that few are.
  * waiting refused: rounds of which a call is refused. The program has it if it is compiled with WITH_REFUSED_ROUNDS.
  * waiting changing: calls that make a fast barrier slow, while tasks have come; after each it is fast again.
+ * waiting prioritized: threads of two priorities on one processor, the higher of which waits for the lower.
  * Status 4: something wasn't as it must be, which standard error names. Status 5: there was no thread, or no memory. */
 #ifdef WITH_REFUSED_ROUNDS
 #include "../include/paldwosk.h"
@@ -34,6 +35,8 @@
 static uint32_t refusing_round(paldwosk_waiting *phaser, const paldwosk_given_send *sends, size_t send_count,
                                const uint64_t *tasks, size_t task_count, uint64_t phase, size_t *made);
 #endif
+__attribute__((unused)) static void hold_between_looks(void); /* the portable way has no seats */
+#define PALDWOSKI_BETWEEN_LOOKS() hold_between_looks()
 #include "../include/paldwosk_barrier.h"
 
 #include <inttypes.h>
@@ -78,6 +81,16 @@ static void fault(int line, const char *what) {
 
 static void nothing(void *data) { (void)data; }
 
+static __thread int is_to_hold;
+static int is_held, is_to_go; /* atomic */
+
+/* Holds a thread that is to be held, after it has seen that the barrier is fast, and before it is at its seat. */
+static void hold_between_looks(void) {
+  if (!is_to_hold) return;
+  __atomic_store_n(&is_held, 1, __ATOMIC_SEQ_CST);
+  while (!__atomic_load_n(&is_to_go, __ATOMIC_SEQ_CST)) sched_yield();
+}
+
 static void start(pthread_t *thread, void *(*body)(void *), void *given) {
   if (pthread_create(thread, NULL, body, given) != 0) exit(5);
 }
@@ -109,16 +122,16 @@ OF_LIBC int sched_yield(void) AS_IN_LIBC {
 
 /* ---- What the header has of a barrier that is fast. Without rounds it never is. */
 
-#ifdef PALDWOSK_IN_ROUNDS
+#ifdef PALDWOSKI_IN_ROUNDS
 enum { HAS_ROUNDS = 1 };
-static int is_fast(const paldwosk_barrier *barrier) { return !paldwosk_is_slow(barrier); }
+static int is_fast(const paldwosk_barrier *barrier) { return !paldwoski_is_slow(barrier); }
 static uint64_t phase_of_rounds(const paldwosk_barrier *barrier) { return barrier->rounds->phase; }
 static unsigned rounds_of(const paldwosk_barrier *barrier) { return barrier->rounds->ended; }
 
 /* With the lock: how many have come, and wait. */
 static unsigned count_come(const paldwosk_barrier *barrier) {
   uint64_t word = __atomic_load_n(&barrier->rounds->to_come, __ATOMIC_RELAXED);
-  return word < PALDWOSK_SLOW ? barrier->tasks - (uint32_t)word : 0;
+  return word < PALDWOSKI_SLOW ? barrier->tasks - (uint32_t)word : 0;
 }
 #else
 enum { HAS_ROUNDS = 0 };
@@ -138,7 +151,7 @@ static int are_parked(paldwosk_barrier *barrier, unsigned count) {
   for (int tried = 0; tried < 20000; tried++, rest(1)) {
     unsigned found = 0;
     pthread_mutex_lock(&barrier->lock);
-    for (struct paldwosk_sleeper *at = barrier->first; at; at = at->next) found++;
+    for (struct paldwoski_sleeper *at = barrier->first; at; at = at->next) found++;
     found += count_come(barrier);
     pthread_mutex_unlock(&barrier->lock);
     if (found == count) return 1;
@@ -898,22 +911,22 @@ static void credit_is_counted(void) {
   paldwosk_barrier barrier;
   paldwosk_task tasks[2] = {PALDWOSK_NO_TASK};
   make_yielding(&barrier, tasks, 100, no_yield);
-  paldwosk_learn_of_yields(&barrier, 5, 1);
+  paldwoski_learn_of_yields(&barrier, 5, 1);
   MUST(barrier.credit == 80);
-  paldwosk_learn_of_yields(&barrier, 199, 0);
-  MUST(barrier.credit == 144 && paldwosk_yields(&barrier) == 10);
-  paldwosk_learn_of_yields(&barrier, 39, 1);
+  paldwoski_learn_of_yields(&barrier, 199, 0);
+  MUST(barrier.credit == 144 && paldwoski_yields(&barrier) == 10);
+  paldwoski_learn_of_yields(&barrier, 39, 1);
   MUST(barrier.credit == -12);
-  for (int wait = 0; wait < 12; wait++) MUST(paldwosk_yields(&barrier) == 0);
-  MUST(barrier.credit == 0 && paldwosk_yields(&barrier) == 0);
-  MUST(barrier.credit == 1 && paldwosk_yields(&barrier) == 10);
-  paldwosk_learn_of_yields(&barrier, INT64_C(3600000000), 1);
+  for (int wait = 0; wait < 12; wait++) MUST(paldwoski_yields(&barrier) == 0);
+  MUST(barrier.credit == 0 && paldwoski_yields(&barrier) == 0);
+  MUST(barrier.credit == 1 && paldwoski_yields(&barrier) == 10);
+  paldwoski_learn_of_yields(&barrier, INT64_C(3600000000), 1);
   MUST(barrier.credit == -1000000);
   barrier.credit = 159999;
-  paldwosk_learn_of_yields(&barrier, 1, 0);
+  paldwoski_learn_of_yields(&barrier, 1, 0);
   MUST(barrier.credit == 160000);
   DONE(paldwosk_barrier_spin(&barrier, 0));
-  MUST(paldwosk_yields(&barrier) == 0 && barrier.credit == 160000);
+  MUST(paldwoski_yields(&barrier) == 0 && barrier.credit == 160000);
   DONE(paldwosk_barrier_free(&barrier));
 }
 
@@ -1347,7 +1360,7 @@ static void *take_traced_turns(void *given) {
  * has signalled all pass, before the lock is given back. So it is clear what stands within the limit. Those that are
  * still there at the limit end by a refused act. */
 static void write_wanted(char *wanted, size_t room, int64_t threads, int64_t phases, int is_long) {
-  int64_t left = PALDWOSK_TRACE_EVENTS - (threads + 2), whole = left / (2 * threads), more = left % (2 * threads);
+  int64_t left = PALDWOSKI_TRACE_EVENTS - (threads + 2), whole = left / (2 * threads), more = left % (2 * threads);
   if (whole >= phases) whole = phases, more = 0;
   int64_t signals = threads * whole + (more < threads ? more : threads);
   int64_t passes = threads * whole + (more < threads ? 0 : more - threads);
@@ -1365,7 +1378,7 @@ static void write_wanted(char *wanted, size_t room, int64_t threads, int64_t pha
 static void traced(int threads, int phases) {
   static char report[1 << 16], wanted[1 << 16];
   paldwosk_task root = PALDWOSK_NO_TASK;
-  int is_long = 2 * (int64_t)threads * phases + 2 * threads + 2 > PALDWOSK_TRACE_EVENTS;
+  int is_long = 2 * (int64_t)threads * phases + 2 * threads + 2 > PALDWOSKI_TRACE_EVENTS;
   the_party.threads = threads;
   the_party.phases = phases;
   DONE(paldwosk_barrier_new_traced(&the_party.barrier, 2, NULL, 0));
@@ -1629,7 +1642,7 @@ static void told(void) {
 /* ---- Calls with a time */
 
 static int64_t milliseconds(void) {
-  struct timespec now = paldwosk_now();
+  struct timespec now = paldwoski_now();
   return (int64_t)now.tv_sec * 1000 + now.tv_nsec / 1000000;
 }
 
@@ -2109,15 +2122,15 @@ static void leave_crowd(visitor *me) {
 static void see_itself(visitor *me) {
   uint64_t missing[THREADS];
   paldwosk_barrier *barrier = &crowd.barrier;
-  DONE(paldwosk_enter(barrier));
-  if (crowd.kind != EVEN_CROWD && drawn(me, crowd.kind == CHANGING_CROWD ? 200 : 4) == 0) paldwosk_go_slow(barrier);
-  const struct paldwosk_member *member = paldwosk_member_of(barrier, me->task.number);
+  DONE(paldwoski_enter(barrier));
+  if (crowd.kind != EVEN_CROWD && drawn(me, crowd.kind == CHANGING_CROWD ? 200 : 4) == 0) paldwoski_go_slow(barrier);
+  const struct paldwoski_member *member = paldwoski_member_of(barrier, me->task.number);
   MUST(member->is_there && member->mode == (unsigned)me->mode);
   MUST(member->is_ahead == (unsigned)(can_signal(me) && me->made > me->passes));
   if (is_fast(barrier)) MUST(phase_of_rounds(barrier) == (uint64_t)me->passes);
   else MUST(member->passes == (uint64_t)me->passes);
-  if (!is_fast(barrier)) MUST((paldwosk_find_missing(barrier, missing) > 0) == (barrier->first != NULL));
-  paldwosk_unlock(barrier);
+  if (!is_fast(barrier)) MUST((paldwoski_find_missing(barrier, missing) > 0) == (barrier->first != NULL));
+  paldwoski_unlock(barrier);
 }
 
 static void *visit(void *given) {
@@ -2551,11 +2564,11 @@ static void ended_by_leave(void) {
 static void ended_by_holder(void) {
   speed_trio_up();
   unsigned before = rounds_of(&trio.barrier);
-  DONE(paldwosk_enter(&trio.barrier));
+  DONE(paldwoski_enter(&trio.barrier));
   for (int at = 0; at < 3; at++) begin_call(&trio.calls[at], trio.tasks[at], 'n');
   for (int tried = 0; tried < 20000 && count_come(&trio.barrier) != 3 * HAS_ROUNDS; tried++) rest(1);
   MUST(count_come(&trio.barrier) == 3 * HAS_ROUNDS && rounds_of(&trio.barrier) == before);
-  paldwosk_unlock(&trio.barrier);
+  paldwoski_unlock(&trio.barrier);
   end_trio(3);
   MUST(is_fast_after(&trio.barrier, before + HAS_ROUNDS));
 }
@@ -2564,12 +2577,12 @@ static void ended_by_holder(void) {
 static void ended_by_holder_who_changes_it(void) {
   speed_trio_up();
   unsigned before = rounds_of(&trio.barrier);
-  DONE(paldwosk_enter(&trio.barrier));
+  DONE(paldwoski_enter(&trio.barrier));
   for (int at = 0; at < 3; at++) begin_call(&trio.calls[at], trio.tasks[at], 'n');
   for (int tried = 0; tried < 20000 && count_come(&trio.barrier) != 3 * HAS_ROUNDS; tried++) rest(1);
-  paldwosk_go_slow(&trio.barrier);
+  paldwoski_go_slow(&trio.barrier);
   MUST(rounds_of(&trio.barrier) == before + HAS_ROUNDS && !is_fast(&trio.barrier));
-  paldwosk_unlock(&trio.barrier);
+  paldwoski_unlock(&trio.barrier);
   end_trio(3);
 }
 
@@ -2631,7 +2644,7 @@ static void slow_for_good(void) {
   }
 }
 
-#ifdef PALDWOSK_IN_ROUNDS
+#ifdef PALDWOSKI_IN_ROUNDS
 
 static int has_signalled; /* atomic */
 
@@ -2649,8 +2662,8 @@ static void come_and_not_said(void) {
   uint64_t phase = 77;
   paldwosk_answer answer = PALDWOSK_NOT_YET;
   speed_trio_up();
-  struct paldwosk_rounds *rounds = trio.barrier.rounds;
-  struct paldwosk_seat *seat = paldwosk_enter_seat(&trio.tasks[0]);
+  struct paldwoski_rounds *rounds = trio.barrier.rounds;
+  struct paldwoski_seat *seat = paldwoski_enter_seat(&trio.tasks[0]);
   MUST(seat == &rounds->seats[trio.tasks[0].seat]);
   seat->call.turn = __atomic_load_n(&rounds->whole, __ATOMIC_SEQ_CST);
   MUST(__atomic_fetch_sub(&rounds->to_come, 1, __ATOMIC_SEQ_CST) == 3);
@@ -2660,15 +2673,73 @@ static void come_and_not_said(void) {
   rest(20);
   MUST(!__atomic_load_n(&has_signalled, __ATOMIC_SEQ_CST));
   __atomic_store_n(&seat->came, trio.phase + 1, __ATOMIC_RELEASE);
-  __atomic_store_n(&seat->inside, PALDWOSK_SEATED, __ATOMIC_RELEASE);
+  __atomic_store_n(&seat->inside, PALDWOSKI_SEATED, __ATOMIC_RELEASE);
   pthread_join(thread, NULL);
   MUST(are_parked(&trio.barrier, 1));
   DONE(paldwosk_barrier_next(&trio.tasks[1], &phase));
-  paldwosk_wait_at_seat(&trio.barrier, seat);
-  answer = paldwosk_answer_at_seat(seat, &phase);
-  paldwosk_leave_seat(seat);
+  paldwoski_wait_at_seat(&trio.barrier, seat);
+  answer = paldwoski_answer_at_seat(seat, &phase);
+  paldwoski_leave_seat(seat);
   MUST(answer == PALDWOSK_DONE && phase == trio.phase);
   DONE(paldwosk_barrier_wait(&trio.tasks[2], &phase));
+  trio.phase++;
+}
+
+static int has_sent; /* atomic */
+
+static void *send_third(void *unused) {
+  (void)unused;
+  is_to_hold = 1;
+  DONE(paldwosk_barrier_send(&trio.tasks[2], 0, 5));
+  __atomic_store_n(&has_sent, 1, __ATOMIC_SEQ_CST);
+  return NULL;
+}
+
+/* A thread has seen that the barrier is fast, and isn't at its seat yet. Another makes the barrier slow, for the same task.
+ * Then the thread doesn't touch the seat: it waits for the lock. */
+static void held_between_looks(void) {
+  pthread_t thread;
+  int64_t value = 77;
+  speed_trio_up();
+  struct paldwoski_seat *seat = &trio.barrier.rounds->seats[trio.tasks[2].seat];
+  is_held = is_to_go = has_sent = 0;
+  start(&thread, send_third, NULL);
+  for (int tried = 0; tried < 20000 && !__atomic_load_n(&is_held, __ATOMIC_SEQ_CST); tried++) rest(1);
+  DONE(paldwoski_enter(&trio.barrier));
+  paldwoski_settle(&trio.tasks[2]);
+  MUST(!is_fast(&trio.barrier) && seat->sends == 0);
+  __atomic_store_n(&is_to_go, 1, __ATOMIC_SEQ_CST);
+  rest(20);
+  MUST(!__atomic_load_n(&has_sent, __ATOMIC_SEQ_CST) && seat->sends == 0);
+  paldwoski_unlock(&trio.barrier);
+  pthread_join(thread, NULL);
+  MUST(has_sent);
+  end_phase_of_trio();
+  DONE(paldwosk_barrier_look(&trio.tasks[0], 0, &value));
+  MUST(value == 5);
+}
+
+/* Task 0 is counted as come, and its seat doesn't say so yet. The last to come waits for that. */
+static void last_and_not_said(void) {
+  uint64_t phase = 77;
+  speed_trio_up();
+  struct paldwoski_rounds *rounds = trio.barrier.rounds;
+  unsigned before = rounds_of(&trio.barrier);
+  struct paldwoski_seat *seat = paldwoski_enter_seat(&trio.tasks[0]);
+  MUST(seat != NULL);
+  seat->call.turn = __atomic_load_n(&rounds->whole, __ATOMIC_SEQ_CST);
+  MUST(__atomic_fetch_sub(&rounds->to_come, 1, __ATOMIC_SEQ_CST) == 3);
+  for (int at = 1; at < 3; at++) begin_call(&trio.calls[at], trio.tasks[at], 'n');
+  for (int tried = 0; tried < 20000 && count_come(&trio.barrier) != 3; tried++) rest(1);
+  rest(20);
+  MUST(rounds_of(&trio.barrier) == before);
+  __atomic_store_n(&seat->came, trio.phase + 1, __ATOMIC_RELEASE);
+  __atomic_store_n(&seat->inside, PALDWOSKI_SEATED, __ATOMIC_RELEASE);
+  paldwoski_wait_at_seat(&trio.barrier, seat);
+  MUST(paldwoski_answer_at_seat(seat, &phase) == PALDWOSK_DONE && phase == trio.phase);
+  paldwoski_leave_seat(seat);
+  for (int at = 1; at < 3; at++) end_call(&trio.calls[at], PALDWOSK_DONE, trio.phase);
+  MUST(rounds_of(&trio.barrier) == before + 1);
   trio.phase++;
 }
 
@@ -2686,13 +2757,13 @@ static void let_go_and_not_out(void) {
   uint64_t phase = 77;
   size_t count = 77;
   speed_trio_up();
-  struct paldwosk_seat *seat = paldwosk_enter_seat(&trio.tasks[2]);
-  MUST(seat && paldwosk_come(&trio.barrier, seat));
-  __atomic_store_n(&seat->inside, PALDWOSK_SEATED, __ATOMIC_RELEASE);
+  struct paldwoski_seat *seat = paldwoski_enter_seat(&trio.tasks[2]);
+  MUST(seat && paldwoski_come(&trio.barrier, seat));
+  __atomic_store_n(&seat->inside, PALDWOSKI_SEATED, __ATOMIC_RELEASE);
   begin_call(&trio.calls[0], trio.tasks[0], 'n');
   DONE(paldwosk_barrier_next(&trio.tasks[1], &phase));
   end_call(&trio.calls[0], PALDWOSK_DONE, trio.phase);
-  MUST(phase == trio.phase && paldwosk_is_over(&trio.barrier, &seat->call));
+  MUST(phase == trio.phase && paldwoski_is_over(&trio.barrier, &seat->call));
   DONE(paldwosk_barrier_missing(&trio.barrier, NULL, 0, &count));
   for (int tried = 0; tried < 64 && !is_fast(&trio.barrier); tried++)
     DONE(paldwosk_barrier_missing(&trio.barrier, NULL, 0, &count));
@@ -2700,8 +2771,8 @@ static void let_go_and_not_out(void) {
   has_signalled = 0;
   start(&thread, signal_third, NULL);
   MUST(does_third_wait());
-  MUST(paldwosk_answer_at_seat(seat, &phase) == PALDWOSK_DONE && phase == trio.phase);
-  paldwosk_leave_seat(seat);
+  MUST(paldwoski_answer_at_seat(seat, &phase) == PALDWOSK_DONE && phase == trio.phase);
+  paldwoski_leave_seat(seat);
   pthread_join(thread, NULL);
   trio.phase++;
   begin_call(&trio.calls[0], trio.tasks[0], 'n');
@@ -2719,7 +2790,7 @@ static void over_and_not_let_go(void) {
   has_signalled = 0;
   start(&thread, signal_third, NULL);
   MUST(does_third_wait());
-  paldwosk_raise(trio.barrier.rounds, 1);
+  paldwoski_raise(trio.barrier.rounds, 1);
   pthread_join(thread, NULL);
   begin_call(&trio.calls[0], trio.tasks[0], 'n');
   DONE(paldwosk_barrier_next(&trio.tasks[1], NULL));
@@ -2735,20 +2806,20 @@ static void without_a_seat(void) {
   call first;
   party_mode = PALDWOSK_SIG_WAIT;
   make_party(&barrier, tasks, 1);
-  for (int at = 2; at < THREADS; at++) barrier.rounds->seats[at].inside = PALDWOSK_SEATED;
+  for (int at = 2; at < THREADS; at++) barrier.rounds->seats[at].inside = PALDWOSKI_SEATED;
   DONE(paldwosk_barrier_join(&tasks[0], PALDWOSK_SIG_WAIT, &tasks[1]));
   MUST(is_fast(&barrier) && tasks[1].seat == 1);
   begin_call(&first, tasks[0], 'n');
   MUST(are_parked(&barrier, 1));
   DONE(paldwosk_barrier_join(&tasks[1], PALDWOSK_SIG_WAIT, &tasks[2]));
-  MUST(!is_fast(&barrier) && tasks[2].seat == PALDWOSK_NO_SEAT);
+  MUST(!is_fast(&barrier) && tasks[2].seat == PALDWOSKI_NO_SEAT);
   DONE(paldwosk_barrier_signal(&tasks[1]));
   DONE(paldwosk_barrier_next(&tasks[2], NULL));
   end_call(&first, PALDWOSK_DONE, 0);
   DONE(paldwosk_barrier_wait(&tasks[1], NULL));
   MUST(!is_fast(&barrier));
   DONE(paldwosk_barrier_leave(&tasks[2]));
-  for (int at = 2; at < THREADS; at++) barrier.rounds->seats[at].inside = PALDWOSK_OUTSIDE;
+  for (int at = 2; at < THREADS; at++) barrier.rounds->seats[at].inside = PALDWOSKI_OUTSIDE;
   DONE(paldwosk_barrier_leave(&tasks[0]));
   for (int done = 0; done < 70 && !is_fast(&barrier); done++) DONE(paldwosk_barrier_next(&tasks[1], NULL));
   MUST(is_fast(&barrier));
@@ -2778,8 +2849,81 @@ static void rests_longer(void) {
   DONE(paldwosk_barrier_free(&barrier));
 }
 
+/* ---- Threads of two priorities on one processor */
+
+static struct pair {
+  paldwosk_barrier barrier;
+  paldwosk_task tasks[2];
+  unsigned processor;
+  int is_high, has_come, has_begun; /* atomic */
+} pair;
+
+/* From now on this thread has the priority, and runs on that processor alone. */
+static void take_priority(int priority) {
+  uint64_t processors[16] = {0};
+  struct sched_param taken;
+  memset(&taken, 0, sizeof taken);
+  taken.sched_priority = priority;
+  processors[pair.processor / 64] = UINT64_C(1) << pair.processor % 64;
+  MUST(syscall(SYS_sched_setaffinity, 0, sizeof processors, processors) >= 0);
+  MUST(sched_setscheduler(0, SCHED_FIFO, &taken) == 0);
+}
+
+/* It is counted as come, and the other takes the processor before its seat says so. It has the processor only once the
+ * other may take it. */
+static void *come_in_low(void *unused) {
+  uint64_t phase = 77;
+  (void)unused;
+  while (!__atomic_load_n(&pair.is_high, __ATOMIC_SEQ_CST)) rest(1);
+  take_priority(10);
+  struct paldwoski_seat *seat = paldwoski_enter_seat(&pair.tasks[0]);
+  MUST(seat != NULL);
+  seat->call.turn = __atomic_load_n(&pair.barrier.rounds->whole, __ATOMIC_SEQ_CST);
+  MUST(__atomic_fetch_sub(&pair.barrier.rounds->to_come, 1, __ATOMIC_SEQ_CST) == 2);
+  __atomic_store_n(&pair.has_come, 1, __ATOMIC_SEQ_CST);
+  while (!__atomic_load_n(&pair.has_begun, __ATOMIC_SEQ_CST)) paldwoski_pause();
+  __atomic_store_n(&seat->came, 1, __ATOMIC_RELEASE);
+  __atomic_store_n(&seat->inside, PALDWOSKI_SEATED, __ATOMIC_RELEASE);
+  paldwoski_wait_at_seat(&pair.barrier, seat);
+  MUST(paldwoski_answer_at_seat(seat, &phase) == PALDWOSK_DONE && phase == 0);
+  paldwoski_leave_seat(seat);
+  return NULL;
+}
+
+/* It asks who is missing first, or comes last at once. Both wait for the other's seat. */
+static void *come_in_high(void *asks) {
+  uint64_t missing[2] = {77, 77};
+  size_t count = 0;
+  take_priority(20);
+  __atomic_store_n(&pair.is_high, 1, __ATOMIC_SEQ_CST);
+  while (!__atomic_load_n(&pair.has_come, __ATOMIC_SEQ_CST)) rest(1);
+  __atomic_store_n(&pair.has_begun, 1, __ATOMIC_SEQ_CST);
+  if (asks) DONE(paldwosk_barrier_missing(&pair.barrier, missing, 2, &count));
+  if (asks) MUST(count == 1 && missing[0] == 1);
+  DONE(paldwosk_barrier_next(&pair.tasks[1], NULL));
+  return NULL;
+}
+
+static void prioritized(void) {
+  static int asks;
+  pthread_t low, high;
+  party_mode = PALDWOSK_SIG_WAIT;
+  MUST(syscall(SYS_getcpu, &pair.processor, NULL, NULL) == 0);
+  for (int at = 0; at < 2; at++) {
+    make_party(&pair.barrier, pair.tasks, 2);
+    pair.is_high = pair.has_come = pair.has_begun = 0;
+    start(&low, come_in_low, NULL);
+    start(&high, come_in_high, at ? &asks : NULL);
+    pthread_join(high, NULL);
+    pthread_join(low, NULL);
+    DONE(paldwosk_barrier_free(&pair.barrier));
+  }
+}
+
 static void of_rounds_alone(void) {
-  MUST(sizeof(struct paldwosk_seat) == 128 && (uintptr_t)trio.barrier.rounds % 128 == 0);
+  MUST(sizeof(struct paldwoski_seat) == 128 && (uintptr_t)trio.barrier.rounds % 128 == 0);
+  held_between_looks();
+  last_and_not_said();
   come_and_not_said();
   let_go_and_not_out();
   over_and_not_let_go();
@@ -2789,6 +2933,7 @@ static void of_rounds_alone(void) {
 
 #else
 
+static void prioritized(void) {}
 static void of_rounds_alone(void) {}
 
 #endif
@@ -2905,6 +3050,7 @@ int main(int count, char **words) {
   else if (!strcmp(what, "rounds")) rounds(given[0], given[1], (uint32_t)given[2]);
   else if (!strcmp(what, "uneven")) uneven(given[0], given[1], (uint32_t)given[2]);
   else if (!strcmp(what, "changing")) changing();
+  else if (!strcmp(what, "prioritized")) prioritized();
   else if (!strcmp(what, "refused")) refused();
   else return 3;
   return faults ? 4 : 0;

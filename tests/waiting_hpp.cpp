@@ -167,7 +167,7 @@ extern const void *const there[3];
 
 static void one_definition() {
   const void *const here[3] = {(const void *)&paldwosk_barrier_next, (const void *)&paldwosk_answer_text,
-                               (const void *)&paldwosk_forks};
+                               (const void *)&paldwoski_forks};
   for (int at = 0; at < 3; at++) MUST(here[at] == there[at]);
 }
 #else

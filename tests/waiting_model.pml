@@ -1,10 +1,11 @@
 /* A model of how the threads of include/paldwosk_barrier.h count who has come, checked by tests/waiting_model with
  * spin in all orders in which the steps of its threads may be made.
  *
- * WHAT IT STANDS FOR. The fast way through `next`: a thread subtracts 1 from the word, and the last has the core
- * make the phase. BUSY: a join and a leave, while others come. SLOW: calls under the mutex, the switch to it in the
- * midst of a phase, which makes the calls of those who have come, and the way back once all stand level. Sleeping by
- * futex, and waking. Calls of a second thread for a task that waits: a join and a leave.
+ * WHAT IT STANDS FOR. The fast way through `next`: a thread subtracts 1 from the word, and writes at its seat that it
+ * has come. The last waits until all seats say so, and has the core make the phase. BUSY: a join and a leave, while
+ * others come. SLOW: calls under the mutex, the switch to it in the midst of a phase, which makes the calls of those
+ * who have come, and the way back once all stand level. Sleeping by futex, and waking. Calls of a second thread for a
+ * task that waits: a join and a leave. Threads read and write in the order of the header.
  *
  * WHAT HAS TO HOLD, for each order:
  *   - No thread passes a phase before each registered task has begun to signal it, nor before the core has passed
@@ -44,9 +45,12 @@
  *   8  a thread looks only once, before its loop, whether its task still has the seat
  *   9  a second thread that leaves for a task doesn't wait for a thread that came in meanwhile
  *  10  the last reads how many sleep before it raises `whole`
- *  11  who makes the barrier fast again writes at the seats in which phase all stand; threads that passed slowly
- *      don't
- *  12  a child gets the phase that was noted when the barrier was last fast, not its parent's
+ *  11  who makes the barrier fast again doesn't write at the seats in which phase all stand
+ *  12  a child's seat isn't told in which phase the child stands
+ *  13  a child isn't counted among those who haven't come
+ *  14  at the end of a phase the count is set one too low
+ * Of these 13 and 14 are faults of the count. They are found with WITHOUT_STAMPS, by which the last doesn't look at the
+ * seats. Else nobody passes early by them, and nobody hangs.
  * COUNTED_LATE is no fault: a sleeper counts itself after it has looked, but sleeps on the value that it saw then. */
 
 #ifndef THREADS
@@ -105,8 +109,9 @@ bit mutex;
 byte phase, count = FIRST, ended;
 
 /* The seats. inside: 1 the task's thread touches its seat, 2 it waits or is in a slow call. stands: the phase of
- * its next call; only its own thread writes that, since others may be a phase ahead of it or behind. came: the
- * phase, and 1, in which it came last by the fast way. number: the phase that it has passed. */
+ * its next call by the fast way; its thread writes that when it has passed by that way, and who makes the barrier fast
+ * writes it for all. came: the phase, and 1, in which it came last by the fast way; 0 once the core is told. number: the
+ * phase that it has passed. */
 byte inside[THREADS];
 byte stands[THREADS];
 byte came[THREADS];
@@ -240,7 +245,7 @@ inline stand_level() {
        at++
     :: else -> break
     od
-#if FAULT == 11
+#if FAULT != 11
     ;
     at = 0;
     do
@@ -258,9 +263,25 @@ inline stand_level() {
 
 /* ---- The end of a fast phase */
 
+#define HAS_COME(t) (is_seated[t] && came[t] == phase + 1)
+#define SAYS_SO(t) (!is_seated[t] || came[t] == phase + 1)
+#if THREADS == 2
+#define ONE_HAS_COME (HAS_COME(0) || HAS_COME(1))
+#define ALL_SAY_THAT_THEY_CAME (SAYS_SO(0) && SAYS_SO(1))
+#elif THREADS == 3
+#define ONE_HAS_COME (HAS_COME(0) || HAS_COME(1) || HAS_COME(2))
+#define ALL_SAY_THAT_THEY_CAME (SAYS_SO(0) && SAYS_SO(1) && SAYS_SO(2))
+#else
+#define ONE_HAS_COME (HAS_COME(0) || HAS_COME(1) || HAS_COME(2) || HAS_COME(3))
+#define ALL_SAY_THAT_THEY_CAME (SAYS_SO(0) && SAYS_SO(1) && SAYS_SO(2) && SAYS_SO(3))
+#endif
+
 /* By the last who came, or by who clears BUSY and finds that all have come. The core is its own until `whole` is
  * raised, although others may subtract, and take BUSY, as soon as `missing` is set. */
 inline combine() {
+#ifndef WITHOUT_STAMPS
+  atomic { ALL_SAY_THAT_THEY_CAME -> assert(user == me) };
+#endif
   atomic { assert(user == me); core_round() };
 #if FAULT == 3
   atomic { high++; low++ };
@@ -275,7 +296,13 @@ inline combine() {
   had = sleepers;
   atomic { high++; low++; user = NOBODY };
 #else
+#if FAULT == 13
+  atomic { missing = count; slow = 0; busy = 0 };
+#elif FAULT == 14
+  atomic { missing = count - 1; slow = 0; busy = 0 };
+#else
   missing = count;
+#endif
   atomic { assert(user == me && high + 1 == ended); high++; low++; user = NOBODY };
   had = sleepers;
 #endif
@@ -352,23 +379,15 @@ inline release() {
   fi
 }
 
-#define CAN_PUSH(t) (is_seated[t] && came[t] == phase + 1 && !is_parked[t])
-#if THREADS == 2
-#define ONE_CAN_BE_PUSHED (CAN_PUSH(0) || CAN_PUSH(1))
-#elif THREADS == 3
-#define ONE_CAN_BE_PUSHED (CAN_PUSH(0) || CAN_PUSH(1) || CAN_PUSH(2))
-#else
-#define ONE_CAN_BE_PUSHED (CAN_PUSH(0) || CAN_PUSH(1) || CAN_PUSH(2) || CAN_PUSH(3))
-#endif
-
 /* Makes the next of a task that has come fast: it is parked, because another hasn't come. */
 inline push_one() {
   at = 0;
   do
-  :: at < THREADS && !CAN_PUSH(at) -> at++
+  :: at < THREADS && !HAS_COME(at) -> at++
   :: else -> break
   od;
   assert(signals[at] == phase && passes[at] == phase);
+  came[at] = 0;
   signals[at]++;
   is_parked[at] = 1;
   had--
@@ -393,12 +412,12 @@ inline enter_slow() {
      :: else ->
         d_step {
           if
-          :: ONE_CAN_BE_PUSHED -> push_one()
+          :: ONE_HAS_COME -> push_one()
           :: else -> had = 0
           fi
         }
 #else
-     :: else -> d_step { ONE_CAN_BE_PUSHED -> push_one() }
+     :: else -> d_step { ONE_HAS_COME -> push_one() }
 #endif
      od
   fi
@@ -515,14 +534,10 @@ inline end_call() {
     if
     :: answer[me] == DONE ->
        set_passed();
-#if FAULT == 11
        if
        :: state[me] != READY -> stands[me] = number[me] + 1
        :: else
        fi
-#else
-       stands[me] = number[me] + 1
-#endif
     :: else -> is_out = 1
     fi;
     number[me] = 0; got = 0; turn = 0; ph = 0; is_mine = 0;
@@ -544,19 +559,29 @@ inline next() {
 #endif
      if
      :: !is_mine -> answer[me] = NOT_REGISTERED; break
-     :: else -> atomic { turn = high; ph = stands[me] }
+     :: else
      fi;
      if
      :: is_slow -> got = IS_SLOW
      :: else ->
+        ph = stands[me];
+        turn = high;
 #if FAULT == 2
         came[me] = ph + 1;
 #endif
         atomic {
+#if FAULT == 13 || FAULT == 14
+          if
+          :: missing -> missing--
+          :: else -> assert(!slow && !busy); missing = STILL; slow = 1; busy = 1; got = IS_COME
+          fi;
+#else
           assert(missing > 0);
           missing--;
+#endif
           if
-          :: slow -> got = IS_SLOW
+          :: got == IS_COME
+          :: got != IS_COME && slow -> got = IS_SLOW
           :: !slow && !missing && !busy -> got = IS_LAST; assert(user == NOBODY); user = me
           :: else -> got = IS_COME
           fi
@@ -612,18 +637,18 @@ inline join(parent) {
     next_task++;
     is_registered[child] = 1; signals[child] = signals[parent]; passes[child] = passes[parent];
     is_seated[child] = 1;
-#if FAULT == 12
+#if FAULT != 12
     stands[child] = phase;
-#else
-    stands[child] = passes[parent];
 #endif
     is_counted[child] = 1; arrived[child] = signals[parent];
     count++
   };
+#if FAULT != 13
   if
   :: slow
   :: else -> missing++
   fi
+#endif
 }
 
 inline start_child() {

@@ -38,7 +38,7 @@ int main() {
   rod[0][0] = rod[1][0] = 100000; /* one end is kept at 100 degrees, and the other at none */
   tasks.push_back(barrier.make(PALDWOSK_SIG_WAIT));
   for (int at = 1; at < THREADS; at++) tasks.push_back(tasks[0].join(PALDWOSK_SIG_WAIT));
-  for (int at = 0; at < THREADS; at++) threads.emplace_back(heat, std::move(tasks[at]), at);
+  for (auto &task : tasks) threads.emplace_back(heat, std::move(task), static_cast<int>(threads.size()));
   for (auto &thread : threads) thread.join();
   for (int at = 1; at < THREADS; at++)
     if (steps[at] != steps[0]) return 1;

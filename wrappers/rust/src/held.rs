@@ -193,6 +193,7 @@ impl Held {
         self.members.stands(parent.seat, self.level.phase);
         let joined = self.join(parent, mode)?;
         self.level.tasks.push(joined.0.task);
+        self.level.seats.push(joined.0.seat);
         Ok(joined)
     }
 
@@ -201,6 +202,7 @@ impl Held {
         self.cell.leave(me.task)?;
         self.free.push(me.seat);
         self.level.tasks.retain(|task| *task != me.task);
+        self.level.seats.retain(|seat| *seat != me.seat);
         if let Some(trace) = &mut self.trace {
             trace.left(me.task);
         }
@@ -271,7 +273,11 @@ impl Held {
             return None;
         }
         self.level.tasks.clear();
-        self.level.tasks.extend(self.members.places().map(|it| it.task));
+        self.level.seats.clear();
+        for Place { task, seat } in self.members.places() {
+            self.level.tasks.push(task);
+            self.level.seats.push(seat);
+        }
         let phase = self.cell.level(&self.level.tasks)?;
         self.level.begins(phase);
         Some(self.level.tasks.len())
@@ -307,10 +313,12 @@ impl Held {
         count
     }
 
-    /// All have come, and these seats may keep what was sent: the archive makes the round. If it doesn't answer as in a
-    /// round: how many calls it answered so. Then `answer_each` is to go on.
+    /// All have come, as the count says, and each seat says so too: so a slip of the count may hold all up, but lets no task go
+    /// on before another has come. These seats may keep what was sent. The archive makes the round. If it doesn't answer as in
+    /// a round: how many calls it answered so. Then `answer_each` is to go on.
     pub(crate) fn round(&mut self, seats: &[Seat], senders: impl Iterator<Item = usize>) -> Result<Round, usize> {
         let (members, level) = (&self.members, &mut self.level);
+        level.seats.iter().for_each(|seat| seats[*seat].awaits_coming(level.phase));
         let places = senders.filter_map(|seat| members.place(seat));
         level.sends.clear();
         level.sends.extend(places.flat_map(|it| seats[it.seat].take_kept(it.task)));
@@ -348,10 +356,7 @@ impl Held {
     /// Answers the turn of a task that has made these parts of it.
     fn answer_one(&mut self, seats: &[Seat], task: u64, has_signalled: bool, has_passed: bool) {
         let Some(place) = self.members.places().find(|it| it.task == task) else { return };
-        let mut pauses = Pauses::new();
-        while !seats[place.seat].is_taken_back(self.level.phase) {
-            pauses.pause();
-        }
+        seats[place.seat].is_taken_back(self.level.phase); // it has come: `round` has waited for that
         let done = Ended::Done(self.level.phase);
         if has_passed {
             self.members.ended(place.seat, Call::Pass, Ok(done));

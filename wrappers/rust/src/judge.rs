@@ -16,23 +16,70 @@ pub enum JudgedEvent {
     /// The task made the phaser, with an accumulator for each of at most four operators and a bound of 1 to 65,536 phases, if
     /// it has one. It was registered in this mode. The judge takes 272 bytes for each phase of the bound, and 18 megabytes
     /// without one: then it judges by a bound of 65,536. At a barrier a bound of 2 says the same as none.
-    Make { task: u64, mode: Mode, operators: Vec<Operator>, bound: Option<u32> },
+    Make {
+        /// The task's number.
+        task: u64,
+        /// How it takes part.
+        mode: Mode,
+        /// What each accumulator does with the values of a phase: at most four.
+        operators: Vec<Operator>,
+        /// How many phases the signals may run ahead of the waits: 1 to 65,536, or none.
+        bound: Option<u32>,
+    },
     /// The parent registered the child.
-    Register { parent: u64, child: u64, mode: Mode },
+    Register {
+        /// The number of the task that registered.
+        parent: u64,
+        /// The number of the new task.
+        child: u64,
+        /// How the child takes part.
+        mode: Mode,
+    },
     /// The task signalled its phase; with a number it proposed the single of that number.
-    Signal { task: u64, single: Option<u32> },
+    Signal {
+        /// The task's number.
+        task: u64,
+        /// The number of the single that it proposed, if it did.
+        single: Option<u32>,
+    },
     /// The task claimed the single of its phase, to run it.
-    Claim { task: u64 },
+    Claim {
+        /// The task's number.
+        task: u64,
+    },
     /// The task reported the single done that it had claimed.
-    SingleDone { task: u64 },
+    SingleDone {
+        /// The task's number.
+        task: u64,
+    },
     /// The task ended its turn.
-    Pass { task: u64 },
+    Pass {
+        /// The task's number.
+        task: u64,
+    },
     /// The task sent a value to an accumulator.
-    Send { task: u64, accumulator: u8, value: i32 },
+    Send {
+        /// The task's number.
+        task: u64,
+        /// The accumulator's index, 0 to 3.
+        accumulator: u8,
+        /// What was sent.
+        value: i32,
+    },
     /// The task looked at an accumulator, and saw this.
-    Look { task: u64, accumulator: u8, saw: Look },
+    Look {
+        /// The task's number.
+        task: u64,
+        /// The accumulator's index, 0 to 3.
+        accumulator: u8,
+        /// What the values of the phase before fold to.
+        saw: Look,
+    },
     /// The task left the phaser. With its last task the phaser is gone, and its number is free again.
-    Drop { task: u64 },
+    Drop {
+        /// The task's number.
+        task: u64,
+    },
 }
 
 /// What an event has where its kind has nothing.
@@ -123,6 +170,7 @@ impl JudgedEvent {
 /// ```
 #[derive(Clone, Copy, Debug, Default, PartialEq, Eq)]
 pub struct Totals {
+    /// Events that were accepted, of all kinds.
     pub events: u64,
     /// Phasers that were made.
     pub made: u64,
@@ -130,9 +178,13 @@ pub struct Totals {
     pub there: u64,
     /// Registrations, those of the makers among them.
     pub registrations: u64,
+    /// Signals, with a single or without.
     pub signals: u64,
+    /// Turns that tasks ended.
     pub passes: u64,
+    /// Tasks that left a phaser.
     pub drops: u64,
+    /// Values that were sent.
     pub sends: u64,
 }
 

@@ -12,7 +12,9 @@ const MANY_ROUNDS: u32 = 64;
 
 pub(crate) struct Level {
     pub(crate) phase: u64,
+    /// Who is to come, and the seat of each.
     pub(crate) tasks: Vec<u64>,
+    pub(crate) seats: Vec<usize>,
     /// What is sent in a round.
     pub(crate) sends: Vec<GivenSend>,
     /// For which accumulators somebody has looked.
@@ -35,8 +37,9 @@ pub(crate) struct Round {
 
 impl Level {
     pub(crate) fn new() -> Level {
-        let (tasks, sends) = (Vec::with_capacity(SEATS), Vec::with_capacity(KEPT * SEATS));
-        Level { phase: 0, tasks, sends, wanted: [false; ACCUMULATORS], rounds: 0, moments: 1, left: 1 }
+        let (tasks, seats) = (Vec::with_capacity(SEATS), Vec::with_capacity(SEATS));
+        let (sends, wanted) = (Vec::with_capacity(KEPT * SEATS), [false; ACCUMULATORS]);
+        Level { phase: 0, tasks, seats, sends, wanted, rounds: 0, moments: 1, left: 1 }
     }
 
     /// The tasks stand level. Whether rounds are to be counted from now on.

@@ -27,7 +27,7 @@
 //! The `unsafe` code passes on what Rust's own types promise: slices and places that nothing else has, and a task that is lent
 //! to one call at a time. Besides, it lends the archive's phaser to the one thread that has it by the count or by the lock, and
 //! hands a word to Linux to sleep by.
-#![deny(unsafe_op_in_unsafe_fn)]
+#![deny(missing_docs, unsafe_op_in_unsafe_fn)]
 
 mod answers;
 mod barrier;

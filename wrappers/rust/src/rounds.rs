@@ -114,8 +114,11 @@ impl<T> Last<'_, T> {
             0 => 0,
             _ => word.swap(0, Relaxed),
         });
-        let bits =
-            |(at, word): (usize, u64)| (0..64).filter(move |bit| word >> bit & 1 != 0).map(move |bit| 64 * at + bit);
+        let bits = |(at, word): (usize, u64)| {
+            std::iter::successors(Some(word), |left| Some(left & left.wrapping_sub(1)))
+                .take_while(|left| *left != 0)
+                .map(move |left| 64 * at + left.trailing_zeros() as usize)
+        };
         words.into_iter().enumerate().flat_map(bits)
     }
 

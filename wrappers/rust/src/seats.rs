@@ -2,7 +2,7 @@
 //! phaser has a seat for each task that it has room for, and keeps them as long as itself: so an answer is written to memory that
 //! stays, even if the task has left meanwhile.
 use crate::archive::{Freed, GivenSend, MOST_FREED};
-use crate::spins::Spins;
+use crate::spins::{Pauses, Spins};
 use crate::waiting_cell::{outcome, Outcome};
 use std::sync::atomic::{AtomicU32, AtomicU64, Ordering::*};
 
@@ -74,9 +74,21 @@ impl Seat {
         self.came.store(phase + 1, Release);
     }
 
+    /// Waits until its task, which is counted as come in this phase, says so.
+    pub(crate) fn awaits_coming(&self, phase: u64) {
+        let mut pauses = Pauses::new();
+        while !self.has_come(phase) {
+            pauses.pause();
+        }
+    }
+
+    pub(crate) fn has_come(&self, phase: u64) -> bool {
+        self.came.load(Acquire) == phase + 1
+    }
+
     /// Whether its task has been counted in this phase, and hadn't been taken back. From now on it is.
     pub(crate) fn is_taken_back(&self, phase: u64) -> bool {
-        let came = self.came.load(Acquire) == phase + 1;
+        let came = self.has_come(phase);
         if came {
             self.came.store(0, Relaxed);
         }
@@ -110,11 +122,6 @@ impl Seat {
     /// The thread doesn't sleep any more, though its task still waits. Whether its answer isn't there yet.
     pub(crate) fn stops_sleeping(&self) -> bool {
         self.state.compare_exchange(ASLEEP, SPINNING, AcqRel, Acquire).is_ok()
-    }
-
-    #[cfg(test)]
-    pub(crate) fn has_come(&self, phase: u64) -> bool {
-        self.came.load(Acquire) == phase + 1
     }
 
     #[cfg(test)]

@@ -288,7 +288,10 @@ pub(crate) fn ended(outcome: Option<Outcome>) -> Outcome {
 #[cfg(test)]
 mod tests {
     use super::*;
+    use std::hint::spin_loop;
+    use std::io::{stderr, Write};
     use std::iter::once;
+    use std::sync::atomic::{AtomicBool, Ordering::SeqCst};
     use std::sync::Arc;
     use std::thread::{sleep, spawn};
     use std::time::Duration;
@@ -470,6 +473,89 @@ mod tests {
         assert_eq!(turns(&shared, &[tasks[0], tasks[2]], 0), [Ok(Ended::Done(0)); 2]);
         assert!(seat.is_ready());
         assert_eq!(seat.outcome(), Ok(Ended::Done(0)));
+    }
+
+    /// The last of two to come waits until the other's seat says that it has come too.
+    #[test]
+    fn last_waits_for_who_came() {
+        let (shared, tasks) = phaser(Mode::SigWait, 1, &[]);
+        let seat = &shared.seats[tasks[1].seat];
+        seat.takes();
+        // SAFETY: the task makes no other turn.
+        assert!(matches!(unsafe { shared.rounds.come(None) }, Coming::Waits));
+        let theirs = (shared.clone(), tasks[0]);
+        let last = spawn(move || turn(&theirs.0, theirs.1, 0));
+        sleep(Duration::from_millis(20));
+        assert!(!last.is_finished() && shared.waits.round() == 0);
+        seat.comes(0);
+        assert_eq!((last.join().unwrap(), rounds(&shared)), (Ok(Ended::Done(0)), (1, true)));
+    }
+
+    /// The calls of Linux by which a thread has a priority, on one processor.
+    #[cfg(target_os = "linux")]
+    mod priorities {
+        const FIFO: i32 = 1;
+
+        extern "C" {
+            fn sched_getcpu() -> i32;
+            fn sched_setaffinity(thread: i32, size: usize, mask: *const u64) -> i32;
+            fn sched_setscheduler(thread: i32, policy: i32, priority: *const i32) -> i32;
+        }
+
+        pub(super) fn processor() -> usize {
+            // SAFETY: it has no arguments.
+            unsafe { sched_getcpu() as usize }
+        }
+
+        /// Whether this thread may have it.
+        pub(super) fn takes(processor: usize, priority: i32) -> bool {
+            let mut mask = [0_u64; 16];
+            mask[processor / 64] |= 1 << (processor % 64);
+            // SAFETY: both read what they are lent.
+            unsafe {
+                sched_setaffinity(0, size_of_val(&mask), mask.as_ptr()) == 0 && sched_setscheduler(0, FIFO, &priority) == 0
+            }
+        }
+    }
+
+    /// A thread is counted, and another of a higher priority takes their one processor before it says so at its seat. That one
+    /// waits for it, and sleeps: else it would have the processor for ever.
+    #[cfg(target_os = "linux")]
+    #[test]
+    fn who_waits_lets_a_lower_priority_run() {
+        let processor = priorities::processor();
+        if !spawn(move || priorities::takes(processor, 10)).join().unwrap() {
+            // Not by `eprintln`, which is kept from the reader.
+            writeln!(stderr(), "paldwosk: NOT RUN: threads of two priorities, which this user may not have").unwrap();
+            return;
+        }
+        let (shared, tasks) = phaser(Mode::SigWait, 1, &[]);
+        let flags = Arc::new([const { AtomicBool::new(false) }; 3]);
+        let (theirs, (other, seat)) = (flags.clone(), (shared.clone(), tasks[1].seat));
+        let low = spawn(move || {
+            assert!(comes(|| theirs[2].load(SeqCst))); // else it might keep the processor from the other
+            assert!(priorities::takes(processor, 10));
+            other.seats[seat].takes();
+            // SAFETY: the task makes no other turn.
+            assert!(matches!(unsafe { other.rounds.come(None) }, Coming::Waits));
+            theirs[0].store(true, SeqCst);
+            while !theirs[1].load(SeqCst) {
+                spin_loop();
+            }
+            other.seats[seat].comes(0);
+        });
+        let other = shared.clone();
+        let high = spawn(move || {
+            assert!(priorities::takes(processor, 20));
+            flags[2].store(true, SeqCst);
+            assert!(comes(|| flags[0].load(SeqCst)));
+            flags[1].store(true, SeqCst);
+            other.missing()
+        });
+        assert_eq!(high.join().unwrap(), [0]);
+        low.join().unwrap();
+        assert_eq!(turn(&shared, tasks[0], 0), Ok(Ended::Done(0)));
+        assert_eq!(shared.seats[seat].outcome(), Ok(Ended::Done(0)));
     }
 
     /// Two of three come while the third has the lock, to leave. It ends the round.

@@ -2,7 +2,8 @@
 use std::hint::spin_loop;
 use std::sync::atomic::{AtomicU32, Ordering::Relaxed};
 use std::sync::{Mutex, MutexGuard, OnceLock, PoisonError, TryLockError};
-use std::thread::{available_parallelism, yield_now};
+use std::thread::{available_parallelism, sleep, yield_now};
+use std::time::Duration;
 
 /// As many rounds as take about as long as to fall asleep and to be woken.
 const MOST: u32 = 1_000;
@@ -13,6 +14,10 @@ const PROBES: u32 = 64;
 
 /// How often a thread tries to take a lock before it waits for it.
 const LOCK_TRIES: u32 = 100;
+
+/// After so many pauses a thread sleeps in each. It may keep the processor from a thread of a lower priority, however often it
+/// yields.
+const AWAKE: u32 = 200;
 
 /// How many rounds are likely to do, by what those did who waited here before. Who waits in the same place shares it.
 // It orders nothing: a number that is lost or late makes a thread spin for too long or too short a time.
@@ -74,10 +79,10 @@ impl Pauses {
 
     pub(crate) fn pause(&mut self) {
         self.made = self.made.saturating_add(1);
-        if self.made < LOCK_TRIES {
-            spin_loop();
-        } else {
-            yield_now();
+        match self.made {
+            made if made < LOCK_TRIES => spin_loop(),
+            made if made < AWAKE => yield_now(),
+            _ => sleep(Duration::from_millis(1)),
         }
     }
 }

@@ -12,6 +12,7 @@
 //! ```
 //!
 //! Nothing compares the declarations with those of `crates/phaser_c`: a change to one needs the same change to the other.
+#![deny(missing_docs)]
 #![no_std]
 
 use core::ffi::c_void;
@@ -19,17 +20,24 @@ use core::ffi::c_void;
 /// What the library keeps of a phaser or of a judge: a pointer, null while there is none.
 #[repr(C)]
 pub struct Handle {
+    /// The library's alone.
     pub held: *mut c_void,
 }
 
 /// `paldwosk_limits`.
 #[repr(C)]
 pub struct GivenLimits {
+    /// Acts of a task: 1 to 65,536.
     pub acts: u32,
+    /// Finishes of a run: 1 to 1,024.
     pub finishes: u32,
+    /// Events in a phaser's history: 4 to 65,536.
     pub history: u32,
+    /// Phasers of a run: 1 to 64.
     pub phasers: u32,
+    /// Registrations on a phaser at once: 1 to 256.
     pub regs: u32,
+    /// Tasks of a run, whose numbers are below it: 1 to 4,096.
     pub tasks: u32,
 }
 
@@ -37,8 +45,11 @@ pub struct GivenLimits {
 #[repr(C)]
 #[derive(Clone, Copy)]
 pub struct Freed {
+    /// The task's number.
     pub task: u64,
+    /// On DONE of a pass the phase, on CLAIMED the single's number; else 0.
     pub number: u64,
+    /// `paldwosk_answer`: DONE, CLAIMED, or why the call was refused.
     pub answer: u32,
 }
 
@@ -46,8 +57,11 @@ pub struct Freed {
 #[repr(C)]
 #[derive(Clone, Copy)]
 pub struct GivenSend {
+    /// The task's number.
     pub task: u64,
+    /// What is sent.
     pub value: i32,
+    /// The accumulator's index, 0 to 3.
     pub accumulator: u8,
 }
 
@@ -55,17 +69,29 @@ pub struct GivenSend {
 #[repr(C)]
 #[derive(Clone, Copy)]
 pub struct GivenEvent {
+    /// Any number.
     pub phaser: u64,
+    /// The task that acts, of a registration the parent: any number.
     pub task: u64,
+    /// Of a registration: any number.
     pub child: u64,
+    /// Of a look: what was seen.
     pub seen: i64,
+    /// Of a send: what was sent.
     pub value: i32,
+    /// Of a signal with a single: its number.
     pub single: u32,
+    /// `paldwosk_judged_kind`.
     pub kind: u32,
+    /// Of making and registering: `paldwosk_mode`.
     pub mode: u32,
+    /// Of a send and a look: its index, from 0.
     pub accumulator: u32,
+    /// Of making: 1 to 65,536 phases, or 0 for none.
     pub bound: u32,
+    /// Of making: how many operators there are, 0 to 4.
     pub operator_count: u32,
+    /// Of making: the first so many, each a `paldwosk_operator`.
     pub operators: [u32; 4],
 }
 
@@ -73,20 +99,31 @@ pub struct GivenEvent {
 #[repr(C)]
 #[derive(Clone, Copy)]
 pub struct GivenTotals {
+    /// Events that were accepted, of all kinds.
     pub events: u64,
+    /// Phasers that were made.
     pub made: u64,
+    /// Phasers that are there now. Of a judge that is over it says nothing.
     pub there: u64,
+    /// Registrations, those of the makers among them.
     pub registrations: u64,
+    /// Signals, with a single or without.
     pub signals: u64,
+    /// Turns that tasks ended.
     pub passes: u64,
+    /// Tasks that left a phaser.
     pub drops: u64,
+    /// Values that were sent.
     pub sends: u64,
+    /// 1 if the judge is over, else 0.
     pub over: u32,
 }
 
 /// `PALDWOSK_MOST_FREED`: how many tasks may wait at once, and be freed by one call.
 pub const MOST_FREED: usize = 256;
 
+// Each of the others is the function of that name in the header, which says what it answers.
+#[allow(missing_docs)]
 unsafe extern "C" {
     /// The form in which the archive and these declarations hand values to each other. With an archive of another form a
     /// program that calls this doesn't link, and the linker names it.
