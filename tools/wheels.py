@@ -43,7 +43,7 @@ def entry_points():
 def contents_of(tree, version, tag):
     """The bytes of each file by its name, first those of the package and then what is told of it."""
     code, library = tree / "share/paldwosk/python", tree / "lib" / LIBRARY
-    files = {str(it.relative_to(code)): it.read_bytes() for it in code.rglob("*.py")}
+    files = {str(it.relative_to(code)): it.read_bytes() for pattern in ("*.py", "py.typed") for it in code.rglob(pattern)}
     files["paldwosk/" + LIBRARY] = library.read_bytes()
     readme = (PROJECT / said("readme")).read_text()
     told = {"METADATA": METADATA % (said("name"), version, said("description"), said("requires-python"), readme),
