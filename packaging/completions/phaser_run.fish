@@ -8,6 +8,8 @@ complete -c phaser_run -n __fish_use_subcommand -f -a judge -d 'Judge the events
 complete -c phaser_run -n __fish_use_subcommand -f -a certify -d 'Say whether every run of a program prints the same report'
 complete -c phaser_run -n __fish_use_subcommand -f -a stencil -d 'Run a stencil over a row of cells on threads'
 complete -c phaser_run -n __fish_use_subcommand -f -a pipeline -d 'Run a pipeline of stages on threads'
+complete -c phaser_run -n __fish_use_subcommand -f -a help -d 'Say what a command reads and prints'
+complete -c phaser_run -n __fish_use_subcommand -l strict -d 'Status 1 if a task was refused'
 complete -c phaser_run -n __fish_use_subcommand -l version -s V -d 'Print version'
 complete -c phaser_run -l help -s h -d 'Print help'
 
