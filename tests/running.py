@@ -6,6 +6,7 @@ import os
 import pathlib
 import shutil
 import subprocess
+import sys
 import tempfile
 
 TOP = pathlib.Path(__file__).resolve().parent.parent
@@ -71,6 +72,44 @@ def each(jobs, judge, cases):
     """What is judged of each case, in their order, so many at once."""
     with concurrent.futures.ThreadPoolExecutor(max_workers=jobs) as several:
         yield from several.map(judge, cases)
+
+
+# A program of a user's may be of any of these standards, and have all these warnings as errors.
+STANDARDS = {"gcc": ["c11", "c17", "c2x"], "clang": ["c11", "c17", "c2x"],
+             "g++": ["c++17", "c++20", "c++2b"], "clang++": ["c++17", "c++20", "c++2b"]}
+WARNINGS = ["-Wall", "-Wextra", "-Wconversion", "-Wsign-conversion", "-Wshadow", "-Wpedantic", "-Werror"]
+
+
+def knows(compiler, standard):
+    """Whether the compiler is here, and has this standard."""
+    words = [compiler, "-std=" + standard, "-fsyntax-only", "-x", "c++" if "+" in compiler else "c", os.devnull]
+    return bool(shutil.which(compiler)) and gave(60, *words).status == 0
+
+
+def in_standards(jobs, name, sources, forms=((),)):
+    """Has each source, in each of these forms, checked by each compiler of its language in each standard: how many
+    checks were made, and how many told nothing."""
+    known = []
+    for compiler, standards in STANDARDS.items():
+        has = [(compiler, standard) for standard in standards if knows(compiler, standard)]
+        known += has
+        if len(has) < len(standards):
+            print("%s: NOT RUN: %s knows %d of its %d standards" % (name, compiler, len(has), len(standards)), flush=True)
+    todo = [(compiler, "-std=" + standard, *form, source) for compiler, standard in known for form in forms
+            for source in sources if ("+" in compiler) == (source.suffix == ".cpp")]
+    words = ["-fsyntax-only", "-pthread", "-I", TOP / "include", *WARNINGS]
+    good = 0
+    for case, ran in zip(todo, each(jobs, lambda it: gave(120, *it, *words), todo)):
+        good += tuple(ran) == ("", "", 0)
+        if tuple(ran) != ("", "", 0):
+            print("%s: %s:\n%s" % (name, " ".join(map(str, case)), (ran.out + ran.err)[:2000]), flush=True)
+    return len(todo), good
+
+
+def has_priorities():
+    """Whether a program may have threads of a priority that others don't take the processor from."""
+    asks = "import os; os.sched_setscheduler(0, os.SCHED_FIFO, os.sched_param(20))"
+    return gave(60, sys.executable, "-c", asks).status == 0
 
 
 class Missing(Exception):

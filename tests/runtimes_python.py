@@ -99,7 +99,8 @@ def cases(folder, times, judge):
     yield from long_runs(judge, folder, [sys.executable, source], 0)
     words = [sys.executable, KINDS]
     yield from kinds(judge, folder, words, ["short_threads", "action", "two_pools"], says="")
-    yield from kinds(judge, folder, words, [*RUNNING, "reset_at_will"])
+    yield from kinds(judge, folder, words, [kind for kind in RUNNING if kind != "leave"] + ["reset_at_will"])
+    yield from kinds(judge, folder, words, ["leave"], may_be_empty=True)
     yield from kinds(judge, folder, words, ["action_throws", "timeout", "abort", "reset", "no_parties"], says="given up or broken")
     yield from kinds(judge, folder, words, ["hang"], status=-signal.SIGTERM, stop_after=1, says="in phase 2 first, second wait; third")
     for fault in FAULTS:

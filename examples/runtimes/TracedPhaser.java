@@ -24,6 +24,7 @@ public class TracedPhaser extends Phaser {
     private static final int MOST_EVENTS = 65_536; // on a phaser of a trace
     private static final int MOST_TICKETS = 4 * MOST_EVENTS;
     private static final int MOST_AT_ONCE = 256; // tasks on the phaser
+    private static final int BOUND = 2; // of a phaser in lines: nobody is further ahead, and a judge needs less room
     private static final int MOST_TASKS = 4_096;
     private static final int MOST_PHASERS = 30_000;
     private static final int NEVER = Integer.MAX_VALUE; // a ticket that nobody draws
@@ -850,7 +851,7 @@ public class TracedPhaser extends Phaser {
             }
             Party child = new Party(++tasks, phase);
             if (here.isEmpty()) {
-                line("make", child, ",\"SIG_WAIT\",[],null");
+                line("make", child, ",\"SIG_WAIT\",[]," + BOUND);
             } else {
                 Party parent = Collections.min(here, Comparator.comparingInt(party -> Party.apart(party.signals(), phase)));
                 passUpTo(phase - 1, parent);

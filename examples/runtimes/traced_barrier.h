@@ -35,6 +35,7 @@
 
 #define TRACED_VERSION 2
 #define TRACED_UNBOUNDED ",null" /* the last item of a make, since version 2 */
+#define TRACED_BOUND ",2"        /* the same in lines: nobody is further ahead, and a judge needs less room */
 #define TRACED_ENDING "],\"limits\":{\"acts\":65536,\"history\":65536},\"version\":#}\n"
 #define TRACED_TICKETS (((uint64_t)1 << 48) - 1)
 
@@ -428,7 +429,7 @@ static inline void traced_tell(struct traced_log *log, uint32_t kind, uint64_t o
         log->is_told = 1, log->parties = (unsigned)of;
         traced_fresh(log, 0);
         for (task = 1; task <= of; task++)
-            traced_line(log, task == 1 ? "make\",#,\"SIG_WAIT\",[]" TRACED_UNBOUNDED "]\n" : "reg\",1,#,\"SIG_WAIT\"]\n", task);
+            traced_line(log, task == 1 ? "make\",#,\"SIG_WAIT\",[]" TRACED_BOUND "]\n" : "reg\",1,#,\"SIG_WAIT\"]\n", task);
     } else if (kind == TRACED_CLOSE) {
         for (task = 1; log->is_told && task <= log->parties; task++)
             if (!log->party[task - 1].has_left)

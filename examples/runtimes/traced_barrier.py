@@ -29,6 +29,7 @@ import weakref
 MOST_EVENTS = 65536  # on a phaser of a trace
 MOST_TICKETS = 2 * MOST_EVENTS
 MOST_AT_ONCE = 256  # tasks on the phaser
+BOUND = 2  # of a phaser in lines: nobody is further ahead, and a judge needs less room
 LIMITS = {"acts": 65536, "history": MOST_EVENTS}
 START = '{"events":['  # of the text of a trace
 PASSED, THREW = "passed", "threw"
@@ -398,7 +399,7 @@ class _Told:
         self.tasks = [_Task(number) for number in range(1, self.parties + 1)]
         for task in self.tasks:
             if task.number == 1:
-                self.line("make", 1, "SIG_WAIT", [], None)
+                self.line("make", 1, "SIG_WAIT", [], BOUND)
             else:
                 self.line("reg", 1, task.number, "SIG_WAIT")
 

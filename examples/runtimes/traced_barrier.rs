@@ -22,6 +22,7 @@ use std::{collections::BTreeMap, env, ffi::OsString, fs, io, io::Write as _, pat
 
 const VERSION: u32 = 2;
 const UNBOUNDED: &str = ",null"; // the last item of a make, since version 2
+const BOUND: &str = ",2"; // the same in lines: nobody is further ahead, and a judge needs less room
 const MOST_PARTIES: usize = 255;
 const MOST_EVENTS: usize = 65_536;
 const CHUNK: usize = 1_024;
@@ -521,7 +522,7 @@ impl Writer<'_> {
     fn tell(&mut self, number: u64, kind: u32, of: u64, at: u64) -> io::Result<()> {
         if kind == MAKE {
             self.there.insert(number, vec![Party::default(); of as usize]);
-            self.line(number, format_args!(r#""make",1,"SIG_WAIT",[]{UNBOUNDED}"#))?;
+            self.line(number, format_args!(r#""make",1,"SIG_WAIT",[]{BOUND}"#))?;
             return (2..=of).try_for_each(|task| self.line(number, format_args!(r#""reg",1,{task},"SIG_WAIT""#)));
         }
         let Some(parties) = self.there.get_mut(&number) else { return Ok(()) };

@@ -1,13 +1,16 @@
 """The words of the command line, the files, the lines and the statuses."""
 from __future__ import annotations
 
+import io
+import itertools
 import os
 from dataclasses import dataclass
 
 from .events import Events
 from .forms import CALLED, KINDS, Fault, count_of, near, shown
-from .json_text import NoJson, keys_twice, line_and_column, offset_of, value_of
-from .programs import Program
+from .json_text import NoJson, keys_twice, line_and_column, offset_of, value_of, why_no_text
+from .logs import LineFault, head_of, is_log, judged, pieces_of
+from .programs import Program, unnamed
 from .refused import Follower, OtherProgram
 from .traces import Trace
 from .world import first_fault
@@ -18,18 +21,19 @@ usage: program_check [--kind KIND] FILE
        program_check PROGRAM --trace TRACE
 
 Says where and why ./phaser_run refuses a text: file, line, column, the number of the act, call or event, and why. It judges
-nothing: what counts is the program's answer. FILE is a program, an events file or a trace, or - for standard input.
+nothing: what counts is the program's answer. FILE is a program, an events file, a trace or a log, or - for standard input.
 
-  --kind KIND   what FILE is: program, events or trace; without it that is found by its keys
+  --kind KIND   what FILE is: program, events, trace or log; without it that is found by its keys, of a log by its first line
   --trace TRACE a trace; where no run makes it: its first event that can't be made, and why
   -h, --help    prints this
 
 With PROGRAM and a TRACE of its run: of each task that was refused, the act in PROGRAM, the phaser by its name there, and why.
 
-Status 0: nothing is wrong. 1: something is, or standard output was closed. 2: wrong words. 3: a file can't be read, or
-standard output can't be written.
+Status 0: nothing is wrong, or there are warnings alone. 1: something is wrong, or standard output was closed. 2: wrong words.
+3: a file can't be read, or standard output can't be written.
 """
 FORMS = {"program": Program, "events": Events, "trace": Trace}
+NAMES = (*FORMS, "log")  # of kinds
 MOST_READ = max(most for _, _, most, _, _ in KINDS.values()) + 1
 OUTPUT, ERRORS = 1, 2
 DONE, WRONG, BAD_WORDS, FAULT = 0, 1, 2, 3
@@ -73,8 +77,8 @@ def wanted_of(words):
         setattr(wanted, name, words.pop(0) if is_option else word)
     if wanted.file is None and wanted.trace is None:
         raise wrong_words("no FILE is named")
-    if wanted.kind is not None and wanted.kind not in FORMS:
-        raise wrong_words("a kind is one of %s" % ", ".join(FORMS) + near(wanted.kind, FORMS))
+    if wanted.kind is not None and wanted.kind not in NAMES:
+        raise wrong_words("a kind is one of %s" % ", ".join(NAMES) + near(wanted.kind, NAMES))
     if wanted.file is not None and wanted.trace is not None and wanted.kind not in (None, "program"):
         raise wrong_words("with --trace FILE is a program")
     return wanted
@@ -87,11 +91,11 @@ def called(name):
     return "standard input" if name == "-" else name
 
 
-def read(name):
-    """The bytes of a file, but for those that are past every limit. Standard input by its number: it may be closed."""
+def of_file(name, read):
+    """What is read from a file of this name. Standard input by its number: it may be closed."""
     try:
         with open(0 if name == "-" else name, "rb", closefd=name != "-") as file:
-            return file.read(MOST_READ)
+            return read(file)
     except OSError as error:
         raise Stop(FAULT, "%s can't be read: %s" % (called(name), error.strerror)) from None
 
@@ -125,15 +129,12 @@ def decoded(name, raw):
         return raw.decode()
     except UnicodeDecodeError as error:
         before = Text(name, raw[:error.start].decode(), "", None)
-        why = "the byte 0x%02x isn't UTF-8" % raw[error.start]
-        if raw[:2] in (b"\xff\xfe", b"\xfe\xff"):
-            why = "the file is UTF-16: save it as UTF-8, without a byte order mark"
-        raise Stop(WRONG, before.line(len(before.text), why), 0) from None
+        raise Stop(WRONG, before.line(len(before.text), why_no_text(raw, error)), 0) from None
 
 
 def text_of(name, kind):
-    """The text of a file with its JSON value."""
-    return text_in(name, read(name), kind)
+    """The text of a file with its JSON value, but for what is past every limit."""
+    return text_in(name, of_file(name, lambda file: file.read(MOST_READ)), kind)
 
 
 def text_in(name, raw, kind):
@@ -147,8 +148,15 @@ def text_in(name, raw, kind):
     try:
         value = value_of(text)
     except NoJson as fault:
-        raise Stop(WRONG, Text(name, text, guess, None).line(fault.at, "no JSON: %s" % fault.why), 0) from None
+        at, why = fault.at, "no JSON: %s" % fault.why
+        if is_log_text(raw):
+            at, why = 0, "this is a log and no %s: judge reads it, and program_check --kind log says what is wrong with it" % guess
+        raise Stop(WRONG, Text(name, text, guess, None).line(at, why), 0) from None
     return Text(name, text, kind or kind_by_keys(list(value) if isinstance(value, dict) else []), value)
+
+
+def is_log_text(raw):
+    return is_log(b"".join(head_of(io.BytesIO(raw))[-1:]))
 
 
 # ---- what is said
@@ -189,11 +197,12 @@ def refused_tasks(events):
     return sum(it.kind == "t" and it.name in ("refuse", "fail") for it in events)
 
 
-def fine(text, what):
+def fine(text, what, warnings=()):
     twice = keys_twice(text.text)
     if twice:
         what += "; the key %s stands twice in one object, and which counts isn't specified" % shown(twice[0])
-    return ["%s: nothing is wrong: %s %s" % (called(text.name), CALLED[text.kind], what)]
+    good = "its form is right" if warnings else "nothing is wrong"
+    return ["%s: %s: %s %s" % (called(text.name), good, CALLED[text.kind], what)]
 
 
 def said_of_trace(text):
@@ -206,13 +215,37 @@ def said_of_trace(text):
     return DONE, fine(text, what)
 
 
+def said_of_program(text):
+    """Whatever task comes to an act that names no phaser is refused it, so that is a warning."""
+    acts = checked(text)
+    why = 'warning: act %d, %s: nothing before names phaser "%s"%s; a task is refused this act by 1 NotRegistered'
+    warnings = [text.at(act.path, why % (act.place, act.part, name, near(name, known))) for act, name, known in unnamed(acts)]
+    return DONE, [*warnings, *fine(text, "whose root has " + count_of(len(acts), "act"), warnings)]
+
+
 def said_of_text(text):
     if text.kind == "trace":
         return said_of_trace(text)
-    read_of = checked(text)
-    if text.kind == "events":
-        return DONE, fine(text, "of " + count_of(len(read_of), "call"))
-    return DONE, fine(text, "whose root has " + count_of(len(read_of), "act"))
+    if text.kind == "program":
+        return said_of_program(text)
+    return DONE, fine(text, "of " + count_of(len(checked(text)), "call"))
+
+
+def said_of_log(name, pieces):
+    try:
+        events = judged(pieces)
+    except LineFault as fault:
+        line = "%s:%d:%d: %s" % (called(name), fault.line, fault.at + 1, fault.why)
+        raise Stop(WRONG, line, fault.line) from None
+    return DONE, ["%s: nothing is wrong: a log of %s of phasers" % (called(name), count_of(events, "event"))]
+
+
+def said_of_file(name, file, kind):
+    """What is said of an open file. A log is read line by line, since it may be of any length."""
+    head = head_of(file) if kind in (None, "log") else []
+    if kind == "log" or head and is_log(head[-1]):
+        return said_of_log(name, itertools.chain(head, pieces_of(file)))
+    return said_of_text(text_in(name, b"".join(head) + file.read(MOST_READ), kind))
 
 
 def said_of_run(program, trace):
@@ -230,7 +263,7 @@ def said_of_run(program, trace):
 
 def said(wanted):
     if wanted.trace is None:
-        return said_of_text(text_of(wanted.file, wanted.kind))
+        return of_file(wanted.file, lambda file: said_of_file(wanted.file, file, wanted.kind))
     if wanted.file is None:
         return said_of_text(text_of(wanted.trace, "trace"))
     return said_of_run(text_of(wanted.file, "program"), text_of(wanted.trace, "trace"))
@@ -239,7 +272,7 @@ def said(wanted):
 def place_of_fault(raw, kind):
     """The place at which a text of this kind is refused; none where it isn't."""
     try:
-        said_of_text(text_in("-", raw, kind))
+        said_of_file("-", io.BytesIO(raw), kind)
     except Stop as stop:
         return stop.place
     return None

@@ -20,6 +20,11 @@ KINDS = {
     "trace": ("events", ("events", "limits", "version"), 1 << 26, "event", "replay"),
 }
 CALLED = {"program": "a program", "events": "an events file", "trace": "a trace"}
+# Words of other runtimes and languages that nothing here is called by, and what is meant.
+MEANT = {
+    "max": "greatest", "maximum": "greatest", "min": "least", "minimum": "least", "add": "sum", "plus": "sum", "arrive": "sig",
+    "register": "reg", "deregister": "drop", "leave": "drop", "wait": "pass",
+}
 
 
 class Fault(Exception):
@@ -53,6 +58,9 @@ def near(word, words):
     """The word of these that was meant, if one is like it."""
     if not isinstance(word, str):
         return ""
+    meant = MEANT.get(word.lower())
+    if meant in words:
+        return '; did you mean "%s"?' % meant
     by_size = {it.upper(): it for it in words}
     found = difflib.get_close_matches(word.upper().replace("-", "_").strip(), by_size, 1, 0.6)
     return '; did you mean "%s"?' % by_size[found[0]] if found else ""

@@ -29,8 +29,13 @@ class Real:
 
     def __init__(self, text):
         self.text = text
-        if math.isinf(float(text)):
-            raise ValueError("too large for a float")
+
+
+def real_of(text):
+    """One that a float has room for."""
+    if math.isinf(float(text)):
+        raise ValueError("too large for a float")
+    return Real(text)
 
 
 class Key(str):
@@ -40,39 +45,52 @@ class Key(str):
 # ---- the value
 
 
-def whole_of(text):
+def whole_of(text, real=real_of):
     number = int(text) if len(text) <= 20 else 2**64
-    return number if -2**63 <= number < 2**64 and text != "-0" else Real(text)
+    return number if -2**63 <= number < 2**64 and text != "-0" else real(text)
 
 
 def no_constant(text):
     raise ValueError(text)
 
 
-def is_too_deep(value):
+def why_no_text(raw, error):
+    """Why bytes are no text, where Python's own reader stops."""
+    if raw[:2] in (b"\xff\xfe", b"\xfe\xff"):
+        return "the file is UTF-16: save it as UTF-8, without a byte order mark"
+    return "the byte 0x%02x isn't UTF-8" % raw[error.start]
+
+
+def is_too_deep(value, deepest=DEEPEST):
     level = [value]
-    for _ in range(DEEPEST + 1):
+    for _ in range(deepest):
         level = [it for it in level if isinstance(it, (list, dict))]
+        if not level:
+            return False
         level = [inner for it in level for inner in (it.values() if isinstance(it, dict) else it)]
-    return bool(level)
+    return any(isinstance(it, (list, dict)) for it in level)
 
 
-def value_of(text):
-    """The value of the text, or NoJson. Python's own reader is quick, and where it stops the slow one says why."""
+QUICK = json.JSONDecoder(parse_int=whole_of, parse_float=real_of, parse_constant=no_constant)
+
+
+def value_of(text, quick=QUICK, real=real_of, deepest=DEEPEST, line=1):
+    """The value of the text, or NoJson. Python's own reader is quick, and where it stops the slow one says why. The caller may
+    say which numbers are too large, what is nested too deep, and the number of the text's first line."""
     try:
-        value = json.loads(text, parse_int=whole_of, parse_float=Real, parse_constant=no_constant)
-        if not SURROGATE.search(text) and not is_too_deep(value):
+        value = quick.decode(text)
+        if not SURROGATE.search(text) and not is_too_deep(value, deepest):
             return value
     except (ValueError, RecursionError):
         pass
-    return Reader(text).whole()
+    return Reader(text, real, deepest, line).whole()
 
 
 class Reader:
     """Reads a text step by step, up to its first fault."""
 
-    def __init__(self, text):
-        self.text = text
+    def __init__(self, text, real=real_of, deepest=DEEPEST, line=1):
+        self.text, self.real, self.deepest, self.line = text, real, deepest, line
 
     def skip(self, at):
         return SPACE.match(self.text, at).end()
@@ -109,8 +127,8 @@ class Reader:
         at = self.skip(at)
         sign = self.sign(at)
         if sign and sign in "[{":
-            if depth == DEEPEST:
-                raise NoJson(at, "lists and objects are nested more than %d deep" % DEEPEST)
+            if depth == self.deepest:
+                raise NoJson(at, "lists and objects are nested more than %d deep" % self.deepest)
             return self.list(at, depth + 1) if sign == "[" else self.object(at, depth + 1)
         if sign == '"':
             return self.string(at)
@@ -128,7 +146,7 @@ class Reader:
             return None, at + 1
         if self.sign(at) != ",":
             line, column = line_and_column(self.text, began)
-            of = "of the %s that begins at %d:%d" % (what, line, column)
+            of = "of the %s that begins at %d:%d" % (what, self.line - 1 + line, column)
             raise NoJson(at, "a comma or the %s %s was expected, and %s" % (closing, of, self.here(at)))
         following = self.skip(at + 1)
         if self.sign(following) == closing:
@@ -199,7 +217,7 @@ class Reader:
         if following and following in ".eE":
             raise NoJson(end, "digits were expected after %s in a number" % following)
         try:
-            return whole_of(found[0]) if found[0].lstrip("-").isdigit() else Real(found[0]), end
+            return whole_of(found[0], self.real) if found[0].lstrip("-").isdigit() else self.real(found[0]), end
         except ValueError:
             raise NoJson(at, "this number is too large for a float of 64 bits") from None
 

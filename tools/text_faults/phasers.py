@@ -1,13 +1,15 @@
 """A phaser of a trace, as its events leave it, and why it doesn't make one: docs/rules.md."""
 from __future__ import annotations
 
+import math
+import operator
 from dataclasses import dataclass, field
 
 from .forms import count_of
 
 # By mode, whether it can signal, wait and run singles.
 CAN = {"SIG": (True, False, False), "WAIT": (False, True, False), "SIG_WAIT": (True, True, False), "SINGLE": (True, True, True)}
-FOLDS = {"sum": sum, "least": min, "greatest": max}
+FOLDS = {"sum": operator.add, "least": min, "greatest": max}
 
 
 def is_within(mode, other):
@@ -103,9 +105,8 @@ class Phaser:
         return 2 if any(it.claimer is None for it in self.undone.values()) else min(len(self.undone), 1)
 
     def seen(self, task, accumulator):
-        values = self.values.get((accumulator, self.on[task].waits - 1), [])
-        operator = self.operators[accumulator]
-        return FOLDS[operator](values) if values or operator == "sum" else None
+        nothing = 0 if self.operators[accumulator] == "sum" else None
+        return self.values.get((accumulator, self.on[task].waits - 1), nothing)
 
     def __str__(self):
         return "phaser %d" % self.number
@@ -163,7 +164,7 @@ class Phaser:
         return self.held_back(it) or self.full(owed=None if number is None or single else 2)
 
     def held_back(self, it):
-        if self.bound is None:
+        if self.bound is None or it.signals < self.bound:
             return None
         late = [task for task, other in self.live().items() if other.can_wait and other.waits + self.bound <= it.signals]
         if not late:
@@ -266,7 +267,8 @@ class Phaser:
         self.on[task].waits += 1
 
     def send(self, task, accumulator, value):
-        self.values.setdefault((accumulator, self.on[task].signals), []).append(value)
+        at, fold = (accumulator, self.on[task].signals), FOLDS[self.operators[accumulator]]
+        self.values[at] = fold(self.values[at], value) if at in self.values else value
 
     def look(self, task, accumulator, seen):
         pass
@@ -275,3 +277,55 @@ class Phaser:
         self.on[task].is_live = False
         self.alive -= 1
         self.count_signals(self.on[task], -1)
+
+
+class LoggedPhaser(Phaser):
+    """A phaser of a log. A task that has left may come again, and what nobody can see any more is forgotten."""
+
+    LIMITS = {"history": math.inf, "regs": 256, "tasks": math.inf}
+
+    def __init__(self, number):
+        super().__init__(self.LIMITS, number)
+        self.kept = 1000  # more phases with values or singles than these, and they are looked through
+
+    def is_made(self):
+        return True
+
+    def why_no_claim(self, task):
+        if not self.is_live(task):
+            return self.not_on(task)
+        return None if self.may_claim(task) else self.why_no_pass(task) or (22, "task %d has no single to claim there" % task)
+
+    def why_no_did(self, task):
+        if not self.is_live(task):
+            return self.not_on(task)
+        return None if self.may_report(task) else (22, "task %d has claimed no single there, or has reported it done" % task)
+
+    def why_no_pass(self, task):
+        if self.may_claim(task):
+            return 22, "task %d has the single of phase %d to claim first" % (task, self.on[task].waits)
+        return super().why_no_pass(task)
+
+    def why_no_look(self, task, accumulator, saw):
+        reason = super().why_no_look(task, accumulator)
+        if reason:
+            return reason
+        sees = self.seen(task, accumulator)
+        words = ["nothing" if it is None else str(it) for it in (sees, saw)]
+        return None if sees == saw else (22, "task %d sees %s there, and not %s" % (task, *words))
+
+    def pass_(self, task):
+        super().pass_(task)
+        if len(self.values) + len(self.singles) > self.kept:
+            self.forget()
+
+    def drop(self, task):
+        super().drop(task)
+        del self.on[task]
+
+    def forget(self):
+        """Forgets the phases before the last turn of each task."""
+        least = min(it.waits for it in self.on.values()) - 1
+        self.values = {at: value for at, value in self.values.items() if at[1] >= least}
+        self.singles = {phase: single for phase, single in self.singles.items() if phase >= least}
+        self.kept = 1000 + 2 * (len(self.values) + len(self.singles))

@@ -17,6 +17,34 @@ NAME = re.compile("[A-Za-z0-9_]{1,32}")
 MOST_ACTS, MOST_NAMES, MOST_TIMES = 10000, 64, 1000
 
 
+def unnamed(acts, known=()):
+    """The acts that name a phaser which no act before names in their task, or in those that spawned it: of each the name and
+    the names that are known. A task ends at the first, so what follows it in its body isn't looked at."""
+    found = []
+    names_in(acts, set(known), found)
+    return found
+
+
+def names_in(acts, known, found):
+    """Adds what is found, and the names that the acts make known. Whether the task goes on after them."""
+    return all(name_in(act, known, found) for act in acts if act.word != "repeat" or act.items[0])
+
+
+def name_in(act, known, found):
+    if act.word == "repeat":
+        return names_in(act.inner, known, found)
+    named = [pair[0] for pair in act.items[0]] if act.word == "async" else act.items[:1] if act.word in ("send", "look") else []
+    missing = [name for name in named if name not in known]
+    if missing:
+        found.append((act, missing[0], sorted(known)))
+        return False
+    if act.word == "new":
+        known.add(act.items[0])
+    if act.inner is not None:
+        names_in(act.inner, set(known), found)
+    return True
+
+
 @dataclass
 class Act:
     place: int

@@ -35,6 +35,7 @@ class Event:
 
 class Trace(Form):
     kind = "trace"
+    ranges = RANGES
 
     def __init__(self):
         super().__init__()
@@ -69,7 +70,7 @@ class Trace(Form):
             self.fault(path, "an event has a ticket, \"p\", \"f\" or \"t\", a number and a name, and here stand %d items" % len(value))
         kind = value[1]
         self.one_of(kind, (*path, 1), "what follows the ticket", tuple(OF_KIND))
-        self.number(value[2], (*path, 2), NUMBERED[kind], 0, WORD)
+        self.number(value[2], (*path, 2), NUMBERED[kind], *self.ranges["ph"])
         whose = {"p": "phaser's event", "f": "finish's event", "t": "task's entry"}[kind]
         name = self.name_at(value, path, 3, OF_KIND[kind], "a " + whose.split()[1])
         items = self.items(value, path, 4, OF_KIND[kind][name])
@@ -94,7 +95,7 @@ class Trace(Form):
             return self.act(value, path, BEGUN if name == "begun" else TRIED)
         elif value is not None or name not in OR_NULL:
             what = NAMES.get(name, name) + (", or null for %s," % OR_NULL[name] if name in OR_NULL else "")
-            self.number(value, path, what, *RANGES[name])
+            self.number(value, path, what, *self.ranges[name])
         return value
 
     def pairs(self, value, path):

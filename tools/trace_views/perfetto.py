@@ -8,9 +8,8 @@ from __future__ import annotations
 import json
 from itertools import groupby
 
-TIME = "1 microsecond is 1 event: the event at place p, counted from 1, goes from p to p + 1"
 FAULTS, TASKS, PHASERS = 1, 2, 3  # the processes
-NAMES = {FAULTS: "fault", TASKS: "tasks (1 us is 1 event)", PHASERS: "phasers (1 us is 1 event)"}
+NAMES = {FAULTS: "fault", TASKS: "tasks (1 us is 1 %s)", PHASERS: "phasers (1 us is 1 %s)"}
 FIRST_THREAD = 10  # viewers take thread 0, and a thread with its process's number, for something else
 NAME_OF_RED = "terrible"  # what chrome://tracing calls its red; Perfetto gives colours by the slices' names
 
@@ -46,7 +45,7 @@ class Export:
         for task in sorted(self.story.tasks.values(), key=lambda task: task.number):
             if self.span.meets(task.born, task.ended):
                 self.task(task)
-        for phaser in sorted(self.story.phasers.values(), key=lambda phaser: phaser.number):
+        for phaser in sorted(self.story.all_phasers, key=lambda phaser: (phaser.number, phaser.made)):
             if self.span.meets(phaser.made, None if phaser.live else phaser.left):
                 self.phaser(phaser)
         self.arrows()
@@ -56,7 +55,7 @@ class Export:
         # since a viewer ties an arrow to the slice that began last
         self.rows.sort(key=lambda row: row["ts"])
         rows = ",\n".join(map(text_of, self.names + self.rows))
-        about = text_of({"time": TIME, "written by": "trace_picture --perfetto"})
+        about = text_of({"time": self.story.TIME, "written by": "trace_picture --perfetto"})
         return f'{{"traceEvents":[\n{rows}\n],\n"displayTimeUnit":"ns",\n"otherData":{about}}}\n'
 
     # ---- rows
@@ -68,7 +67,7 @@ class Export:
         """The thread of a task or of a phaser, named as it is first asked for."""
         if process not in self.processes:
             self.processes.add(process)
-            self.name("process_name", {"pid": process}, name=NAMES[process])
+            self.name("process_name", {"pid": process}, name=NAMES[process].replace("%s", self.story.UNIT))
             self.name("process_sort_index", {"pid": process}, sort_index=process)
         thread = self.threads[process, number] = FIRST_THREAD + len(self.threads)
         whose = {"pid": process, "tid": thread}
@@ -91,14 +90,17 @@ class Export:
         """What isn't None of it."""
         return {key: value for key, value in args.items() if value is not None}
 
+    def places(self, first, last):
+        """From where to where something goes; without a last one it goes on."""
+        return self.known(**{self.story.PLACE: first, f"last_{self.story.PLACE}": last})
+
     # ---- tasks
 
     def task(self, task):
         track = self.track(TASKS, task.number, f"task {task.number}")
-        whose = "the root" if task.spawner is None else f"spawned by task {task.spawner}"
         until = None if task.ended is None else task.ended + 1
-        places = self.known(place=task.born, last_place=task.ended)
-        self.slice(track, "task", f"task {task.number}, {whose}", task.born, until, places)
+        name = f"task {task.number}, {self.story.origin(task)}"
+        self.slice(track, "task", name, task.born, until, self.places(task.born, task.ended))
         acts = {act.first: act for act in task.acts}
         said = {place: words for place, _, _, words in task.marks}
         for place in sorted({*acts, *said}):
@@ -110,11 +112,11 @@ class Export:
     def act(self, track, act, words):
         """An act; one that is a single event says what that does."""
         named = f"async task {act.words.split()[1]}" if act.name == "async" else act.words
-        args = {**self.at(act.first), **({"last_place": act.last} if act.last > act.first else {})}
+        args = {**self.at(act.first), **({f"last_{self.story.PLACE}": act.last} if act.last > act.first else {})}
         self.slice(track, "act", words or named, act.first, act.last + 1, args)
 
     def at(self, place):
-        return {"place": place, "ticket": self.story.ticket(place)}
+        return {self.story.PLACE: place, "ticket": self.story.ticket(place)}
 
     # ---- phasers
 
@@ -122,20 +124,25 @@ class Export:
         track = self.track(PHASERS, phaser.number, f"phaser {phaser.number}")
         left = None if phaser.live else phaser.left
         accumulators = ", ".join(phaser.ops) or None
-        args = self.known(place=phaser.made, last_place=left, accumulators=accumulators, bound=phaser.bound)
+        args = {**self.places(phaser.made, left), **self.known(accumulators=accumulators, bound=phaser.bound)}
         until = None if left is None else left + 1
         self.slice(track, "phaser", f"phaser {phaser.number}", phaser.made, until, args)
         after = phaser.made
         for phase, begun, until in closed_phases(phaser):
             after = until
+            if until <= self.start:
+                continue
             closer = phaser.closer(phase)
-            closed_by = f"task {self.story.actors[closer]} at place {closer}"
-            args = {"first_place": phaser.begun[phase], "closed_by": closed_by, **self.values(phaser, phase)}
+            closed_by = f"task {self.story.actors[closer]} at {self.story.PLACE} {closer}"
+            args = {**self.first(phaser, phase), "closed_by": closed_by, **self.values(phaser, phase)}
             self.slice(track, "phase", f"phase {phase}", begun, until, args)
         phase = len(phaser.closings)
         if phase < len(phaser.begun):  # of the phases that aren't closed the first alone: later ones would overlap
-            args = {"first_place": phaser.begun[phase], **self.values(phaser, phase)}
+            args = {**self.first(phaser, phase), **self.values(phaser, phase)}
             self.slice(track, "phase", f"phase {phase}", max(phaser.begun[phase], after), None, args)
+
+    def first(self, phaser, phase):
+        return {f"first_{self.story.PLACE}": phaser.begun[phase]}
 
     def values(self, phaser, phase):
         """What each accumulator came to in a phase, up to now where it isn't closed."""
@@ -146,12 +153,12 @@ class Export:
 
     def arrows(self):
         """From each event that closed a phase to each pass that it let go, where both are in the span."""
-        for number in sorted(self.story.phasers):
-            for closed, passed in self.story.phasers[number].let_go():
+        for phaser in sorted(self.story.all_phasers, key=lambda phaser: (phaser.number, phaser.made)):
+            for closed, passed in phaser.let_go():
                 if self.span.has(closed) and self.span.has(passed):
                     self.arrow_count += 1
-                    self.arrow_end("s", closed, f"phaser {number} lets go")
-                    self.arrow_end("f", passed, f"phaser {number} lets go", bp="e")  # to the slice there, not the next
+                    self.arrow_end("s", closed, f"{phaser} lets go")
+                    self.arrow_end("f", passed, f"{phaser} lets go", bp="e")  # to the slice there, not the next
 
     def arrow_end(self, end, place, name, **more):
         thread = self.threads[TASKS, self.story.actors[place]]
@@ -166,8 +173,8 @@ class Export:
         """A slice on a track of its own and on that of its task, and a line across all tracks."""
         place = self.story.fault
         name = f"FAULT: {self.story.fault_words()}"
-        args = {"place": place, "details": "; ".join(self.story.fault_details())}
-        tracks = [self.track(FAULTS, 0, "where a replay refused")]
+        args = {self.story.PLACE: place, "details": "; ".join(self.story.fault_details())}
+        tracks = [self.track(FAULTS, 0, self.story.REFUSED)]
         thread = self.threads.get((TASKS, self.story.actors.get(place)))
         if thread is not None:
             tracks.append((TASKS, thread))

@@ -25,9 +25,8 @@ class Picture:
     def __init__(self, story, span):
         self.story, self.span, self.out = story, span, []
         self.tasks = [t for _, t in sorted(story.tasks.items()) if span.meets(t.born, t.ended)]
-        self.phasers = [
-            p for _, p in sorted(story.phasers.items()) if span.meets(p.made, None if p.live else p.left)
-        ]
+        phasers = sorted(story.all_phasers, key=lambda phaser: (phaser.number, phaser.made))
+        self.phasers = [p for p in phasers if span.meets(p.made, None if p.live else p.left)]
         self.finishes = [f for f in story.finishes.values() if span.meets(f.opened, f.shut)]
         columns = max(span.last - span.first + 1, 1)
         self.column = min(26.0, max(4.5, 1500 / columns))
@@ -35,7 +34,8 @@ class Picture:
         self.radius = min(4.6, 0.44 * self.column + 0.6, self.row / 4.5)
         self.left = MARGIN + LABEL
         self.width = max(self.left + (columns + 1) * self.column + LABEL + MARGIN, 860)
-        self.colours = {n: COLOURS[i % len(COLOURS)] for i, n in enumerate(sorted(story.phasers))}
+        numbers = sorted({phaser.number for phaser in phasers})
+        self.colours = {n: COLOURS[i % len(COLOURS)] for i, n in enumerate(numbers)}
         self.y = 0.0  # down to which it is drawn
         self.rows = {}  # the line of each task
 
@@ -54,13 +54,11 @@ class Picture:
         return self.x(self.span.last + 0.5 if self.span.is_open_after(ended) else ended)
 
     def stamp(self, place):
-        """The ticket of an event, and its place where that is another number."""
-        ticket = self.story.ticket(place)
-        return f"ticket {ticket}" if ticket == place else f"ticket {ticket}, place {place}"
+        return self.story.stamp(place)
 
     def events(self):
         """The events that are drawn, told or not."""
-        return self.story.events[self.span.first - 1:self.span.last]
+        return [event for place, event in self.story.events.items() if self.span.has(place)]
 
     # ---- the whole
 
@@ -90,14 +88,7 @@ class Picture:
         return "\n".join([head, '<rect width="100%" height="100%" fill="white"/>', *self.out, *front, "</svg>", ""])
 
     def heading(self):
-        events, first, last = len(self.story.events), self.span.first, self.span.last
-        counted = [
-            (events, "event", "events"), (len(self.tasks), "task", "tasks"),
-            (len(self.phasers), "phaser", "phasers"), (len(self.finishes), "finish", "finishes"),
-        ]
-        words = ", ".join(f"{n} {one if n == 1 else more}" for n, one, more in counted)
-        if (first, last) != (1, self.story.last):
-            words = f"places {first} to {last} of {words}"
+        words = self.story.heading(self.span, len(self.tasks), len(self.phasers), len(self.finishes))
         self.add(text(MARGIN, MARGIN + 12, words, 13, font_weight="bold"))
 
     def legend(self):
@@ -119,7 +110,7 @@ class Picture:
         events = self.events()
         self.axis("ticket", [(event.place, event.ticket) for event in events])
         if any(event.ticket != event.place for event in events):
-            self.axis("place", [(event.place, event.place) for event in events])
+            self.axis(self.story.PLACE, [(event.place, event.place) for event in events])
 
     def axis(self, name, numbers):
         """A line of numbers, as many as there is room for."""

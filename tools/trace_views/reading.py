@@ -1,8 +1,10 @@
-"""The text of a trace, as events: docs/formats.md, "The text of a trace"."""
+"""The text of a trace or of a log, as events: docs/formats.md, "The text of a trace" and "Lines of events"."""
 from __future__ import annotations
 
 import json
 from dataclasses import dataclass
+
+from text_faults.logs import LineFault, read_log
 
 MODES = {"SIG": (True, False), "WAIT": (False, True), "SIG_WAIT": (True, True), "SINGLE": (True, True)}
 FOLDS = {
@@ -34,7 +36,7 @@ class NoTrace(Exception):
 
 @dataclass
 class Event:
-    place: int  # from 1
+    place: int  # from 1; in a log the line
     ticket: int
     kind: str  # p, f or t
     number: int  # of the phaser, the finish or the task
@@ -112,6 +114,16 @@ def event_of(place, items, version):
     if not known or not has_form(OF_KIND[kind], named):
         raise NoTrace(place, "this is the form of no event")
     return Event(place, items[0], kind, number, named[0], named[1:], items)
+
+
+def events_of_log(lines):
+    """The events of phasers in the lines of a log, one by one, or NoTrace at the first line that is of no form."""
+    try:
+        for number, value, event in read_log(lines):
+            if event.kind == "p":
+                yield Event(number, event.ticket, "p", event.number, event.name, value[4:], value)
+    except LineFault as fault:
+        raise NoTrace(fault.line, fault.why) from None
 
 
 def events_of(data):

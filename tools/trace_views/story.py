@@ -1,6 +1,7 @@
 """What the events of a trace say of each task, phaser and finish."""
 from __future__ import annotations
 
+from array import array
 from dataclasses import dataclass, field
 
 from .reading import FOLDS, MODES, NoTrace
@@ -33,10 +34,13 @@ class Phaser:
     least: int = 0  # no live signaller made fewer signals
     silent: int | None = None  # the place from which on no live task can signal
     sent: dict = field(default_factory=dict)  # (phase, accumulator) -> values
-    begun: list = field(default_factory=list)  # the place of the first signal, pass or value of each phase
-    closings: list = field(default_factory=list)  # the place at which each phase was closed
+    begun: array = field(default_factory=lambda: array("Q"))  # the place of the first signal, pass or value of each phase
+    closings: array = field(default_factory=lambda: array("Q"))  # the place at which each phase was closed
     passes: list = field(default_factory=list)  # (place, phase) of each pass by a task that can wait
     left: int = 0  # the place at which the last task left it
+
+    def __str__(self):
+        return f"phaser {self.number}"
 
     def join(self, place, task, reg):
         self.live[task] = reg
@@ -77,7 +81,7 @@ class Phaser:
         while self.signalled and self.least not in self.signalled:
             self.least += 1
         below = self.least if self.signalled else len(self.begun)
-        self.closings += [place] * (below - len(self.closings))
+        self.closings.extend([place] * (below - len(self.closings)))
 
     def values(self, phase):
         """What each accumulator came to in a phase."""
@@ -137,49 +141,89 @@ class Story:
     what can't be told from there on is left out: the events before it are a run's, and those after it anything.
     """
 
+    PLACE, UNIT = "place", "event"  # what the numbers of events are called, and what has one
+    TIME = "1 microsecond is 1 event: the event at place p, counted from 1, goes from p to p + 1"
+    REFUSED, RANGE = "where a replay refused", "--from and --to"
+
     def __init__(self, events, fault=None):
-        self.events, self.fault = events, fault
-        self.tasks = {0: Task(0, 0)}
-        self.phasers = {}
-        self.finishes = {0: Finish(0, 0, 0)}
+        self.fault = fault
+        self.events = {}  # by place, those that were told and those after them
+        self.tasks, self.finishes = self.at_start()
+        self.phasers = {}  # by number, those that are there
+        self.all_phasers = []
         self.spawners = {}  # of the children that were named
         self.actors = {}  # of each place, the task that made the event
         self.told = 0  # the place of the last event that was told
+        self.ticket_before = -1
         self.stop = None  # why no more was told
+        self.end = 0  # the place of the last event
         try:
             for event in events:
-                self.tell(event)
-        except NoTrace as stop:
-            if fault is None or stop.place < fault:
-                raise
-            self.stop = stop
+                self.take(event)
+        except NoTrace as stop:  # what is read one by one may end in what can't be read
+            self.stop_at(stop)
         self.last = max(self.told, fault or 0)  # the last place that there is to draw
 
+    def at_start(self):
+        """The tasks and the finishes before the first event."""
+        return {0: Task(0, 0)}, {0: Finish(0, 0, 0)}
+
+    def take(self, event):
+        self.events[event.place], self.end = event, event.place
+        if self.stop is None:
+            try:
+                self.tell(event)
+            except NoTrace as stop:
+                self.stop_at(stop)
+
+    def stop_at(self, stop):
+        """Nothing is told from here on. That may not be before the fault."""
+        if self.fault is None or stop.place < self.fault:
+            raise stop
+        self.stop, self.end = self.stop or stop, max(self.end, stop.place)
+
     def ticket(self, place):
-        return self.events[place - 1].ticket
+        return self.events[place].ticket
+
+    def stamp(self, place):
+        """The ticket of an event, and its place where that is another number."""
+        ticket = self.ticket(place)
+        return f"ticket {ticket}" if ticket == place else f"ticket {ticket}, {self.PLACE} {place}"
+
+    def counted(self, **counts):
+        one = {"events": "event", "tasks": "task", "phasers": "phaser", "finishes": "finish"}
+        return ", ".join(f"{n} {one[more] if n == 1 else more}" for more, n in counts.items())
+
+    def heading(self, span, tasks, phasers, finishes):
+        """What is drawn, and how many there are of each."""
+        words = self.counted(events=len(self.events), tasks=tasks, phasers=phasers, finishes=finishes)
+        whole = (span.first, span.last) == (1, self.last)
+        return words if whole else f"places {span.first} to {span.last} of {words}"
+
+    def origin(self, task):
+        return "the root" if task.spawner is None else f"spawned by task {task.spawner}"
 
     def fault_words(self):
         return f"refused 25 NotExplained at {self.fault}"
 
     def fault_details(self):
         """What stands at the fault, and from where on nothing is told."""
-        if self.fault > len(self.events):
+        if self.fault > self.end:
             return ["the trace ends, and the run hasn't ended"]
-        details = [self.events[self.fault - 1].text()]
+        details = [self.events[self.fault].text()]
         if self.stop:
-            details.append(f"from place {self.stop.place} on nothing is drawn: {self.stop.why}")
+            details.append(f"from {self.PLACE} {self.stop.place} on nothing is drawn: {self.stop.why}")
         return details
 
     def tell(self, event):
         self.event = event
         actor = self.actors[event.place] = self.actor()
-        before = self.events[event.place - 2].ticket if event.place > 1 else -1
-        if event.ticket <= before:
-            raise self.wrong(f"ticket {event.ticket} isn't greater than the one before, {before}")
+        if event.ticket <= self.ticket_before:
+            raise self.wrong(f"ticket {event.ticket} isn't greater than the one before, {self.ticket_before}")
         if actor is not None:
             self.task(actor)  # before anything is noted: an event is told whole or not at all
         {"p": self.step, "f": self.finish_event, "t": self.entry}[event.kind]()
-        self.told = event.place
+        self.told, self.ticket_before = event.place, event.ticket
 
     def actor(self):
         """The number of the task that makes the event, or None where nobody is known to."""
@@ -217,6 +261,7 @@ class Story:
             if n in self.phasers:
                 raise self.wrong(f"phaser {n} was made before")
             phaser = self.phasers[n] = Phaser(n, place, *rest[2:])
+            self.all_phasers.append(phaser)
             phaser.join(place, rest[0], Registration(rest[1]))
             words = f"makes phaser {n}, {rest[1]}"
             self.own_act(rest[0], "make", n, words + (f", bound {phaser.bound}" if phaser.bound else ""))
