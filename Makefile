@@ -10,13 +10,16 @@ ARCHIVE ?=
 PROGRAM ?=
 MACHINE := $(shell uname -s -m)
 
-own_folders := include/paldwosk lib/cmake/paldwosk share/paldwosk share/doc/paldwosk
+own_folders := include/paldwosk lib/cmake/paldwosk libexec/paldwosk share/paldwosk share/doc/paldwosk
 own_files := bin/phaser_run bin/phaser-check bin/phaser-picture \
   lib/libpaldwosk.a lib/libpaldwosk.so lib/libpaldwosk.so.[0-9]* lib/pkgconfig/paldwosk.pc \
   share/man/man1/phaser_run.1 share/man/man1/phaser-check.1 share/man/man1/phaser-picture.1 \
   share/man/man3/paldwosk_barrier.3 share/man/man5/paldwosk-trace.5 \
   share/bash-completion/completions/phaser_run share/zsh/site-functions/_phaser_run \
   share/fish/vendor_completions.d/phaser_run.fish
+
+# A checkout without a program has no libexec.
+parts = $$(ls -d bin include lib libexec share 2> /dev/null)
 
 .PHONY: help install machine uninstall
 help:
@@ -38,10 +41,10 @@ endif
 
 install: machine
 	@$(find_tree); mkdir -p "$(DESTDIR)$(PREFIX)" && to=$$(cd "$(DESTDIR)$(PREFIX)" && pwd) && cd "$$from" && \
-	  find bin include lib share -type d | while read -r it; do mkdir -p "$$to/$$it" || exit; done && \
-	  find bin include lib share -type f | while read -r it; do \
+	  find $(parts) -type d | while read -r it; do mkdir -p "$$to/$$it" || exit; done && \
+	  find $(parts) -type f | while read -r it; do \
 	    if [ -x "$$it" ]; then mode=755; else mode=644; fi; install -m $$mode "$$it" "$$to/$$it" || exit; done && \
-	  find bin include lib share -type l | while read -r it; do cp -P -f "$$it" "$$to/$$it" || exit; done && \
+	  find $(parts) -type l | while read -r it; do cp -P -f "$$it" "$$to/$$it" || exit; done && \
 	  echo "installed in $$to"
 
 uninstall:
