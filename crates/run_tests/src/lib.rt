@@ -1,5 +1,5 @@
 //! Tests of what runs on workers, and of what each run gives, which call what these crates export: the
-//! jobs of `run_jobs`, and below them `phased_rt`, `live_rt`, `task_queue`, `job_kernels`, `trace_walk` and `run_laws`.
+//! jobs of `run_jobs`, and below them `phased_rt`, `live_rt`, `tasks_in_flight`, `task_queue`, `job_kernels`, `trace_walk` and `run_laws`.
 //!
 //! A library of tests alone: if they stood in the crates themselves, these would be proved once
 //! more with each change of a test.

@@ -4,12 +4,14 @@ ghost use Rattle.task_queue.specs.Accounts.{AreTogether};
 
 use phase_modes::Refusal;
 use std::alloc::Global;
+use std::collections::VecDeque;
 use std::sync::Wait;
 use std::sync::atomic::{AtomicU64, Ordering};
 use std::thread;
 use std::thread::Threads;
 use std::time::{Clock, Duration};
 use task_queue::{RunQueue, Seat};
+use tasks_in_flight::Hand;
 
 // Whether an item was put from the seat at this place.
 fn put_at<R: Wait>(
@@ -56,6 +58,24 @@ fn first_in_first_out(rt: HostRuntime) -> Result<(), Refusal> {
     let rest = queue.into_rest(seats)?;
     assert!(rt; rest.len() == 40);
     assert!(rt; rest[0] == 60 && rest[39] == 99);
+    Ok(())
+}
+
+// A run that is given up, as one is that was refused memory, leaves its tasks where they are: else one that
+// never ends would go on for ever.
+#[test]
+fn a_hand_stops_at_a_closed_queue(rt: HostRuntime) -> Result<(), Refusal> {
+    let (queue, mut seats) = RunQueue::new(rt.alloc(), 1, 4)?;
+    let Some(seat) = seats.pop() else {
+        return Err(Refusal::SharesDiffer);
+    };
+    let kept = VecDeque::new(rt.alloc());
+    let mut hand = Hand { seat, kept };
+    hand.give(&rt, &queue, 7u32)?;
+    hand.give(&rt, &queue, 8)?;
+    assert!(rt; hand.next(&rt, &queue) == Some(7));
+    queue.close(&rt);
+    assert!(rt; hand.next(&rt, &queue).is_none());
     Ok(())
 }
 
