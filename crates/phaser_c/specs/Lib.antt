@@ -9,6 +9,7 @@ pub mod Held
 pub mod History
 pub mod Judged
 pub mod JudgedGiven
+pub mod JudgedWhy
 pub mod RoundCalls
 pub mod Rounds
 pub mod Told

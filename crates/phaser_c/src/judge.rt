@@ -66,7 +66,7 @@ fn answer_why(why: Refused) -> ExportAnswer
 }
 
 /// What is answered if a judge says this of an event.
-fn answer_said(said: Result<(), Refused>) -> ExportAnswer
+pub(crate) fn answer_said(said: Result<(), Refused>) -> ExportAnswer
     ensures { result ≡ answer_said said }
 {
     match said {
