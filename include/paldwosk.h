@@ -113,7 +113,7 @@ typedef enum paldwosk_answer {
   PALDWOSK_BAD_TICKETS = 72,   /* there aren't as many tickets as events */
   PALDWOSK_BAD_KIND = 73,      /* no kind of event has this number */
 
-  /* Answers of paldwosk_judge_event alone, beside those of 1 to 22: the event can't be. The judge is over. */
+  /* Answers of a judge alone, beside those of 1 to 22: the event can't be. The judge is over. */
   PALDWOSK_NOT_MADE = 80,           /* the phaser isn't made, or its last task has left it */
   PALDWOSK_MADE_ALREADY = 81,       /* the phaser is made already */
   PALDWOSK_REGISTERED_ALREADY = 82, /* the child is registered on the phaser already */
@@ -331,6 +331,16 @@ typedef struct paldwosk_judged_totals {
   uint32_t over; /* 1 if the judge is over, else 0 */
 } paldwosk_judged_totals;
 
+/* How many of the tasks for which an event had to wait a paldwosk_judged_why names. */
+#define PALDWOSK_MOST_NAMED 16
+
+/* For whom an event had to wait: tasks that are registered, can signal, and haven't signalled its phase. */
+typedef struct paldwosk_judged_why {
+  uint64_t phase;                      /* of PASS and CLAIM, the phase at which their task stands; else 0 */
+  uint64_t count;                      /* how many tasks owe it: 0 to 256 */
+  uint64_t tasks[PALDWOSK_MOST_NAMED]; /* the first of them, in the order of their registration; behind fewer stand zeros */
+} paldwosk_judged_why;
+
 /* A task that had to wait. Another task's call has now ended its wait. */
 typedef struct paldwosk_freed {
   uint64_t task;
@@ -366,6 +376,8 @@ uint32_t phaser_c_events(const uint8_t *file, size_t length, uint8_t *lines, siz
 uint32_t phaser_c_judge_new(paldwosk_judge *judge);
 void phaser_c_judge_free(paldwosk_judge *judge);
 uint32_t phaser_c_judge_event(paldwosk_judge *judge, const paldwosk_judged_event *event);
+uint32_t phaser_c_judge_event_with_owing(paldwosk_judge *judge, const paldwosk_judged_event *event,
+                                         paldwosk_judged_why *why);
 uint32_t phaser_c_judge_totals(paldwosk_judge *judge, paldwosk_judged_totals *totals);
 uint32_t phaser_c_new(paldwosk_phaser *phaser, const paldwosk_limits *limits, const uint32_t *operators, size_t count,
                       uint32_t bound);
@@ -484,6 +496,24 @@ PALDWOSK_INLINE void paldwosk_judge_free(paldwosk_judge *judge) {
 PALDWOSK_MUST_CHECK
 PALDWOSK_INLINE paldwosk_answer paldwosk_judge_event(paldwosk_judge *judge, const paldwosk_judged_event *event) {
   return judge && event ? (paldwosk_answer)phaser_c_judge_event(judge, event) : PALDWOSK_NULL;
+}
+
+/* The same as paldwosk_judge_event, and tells for whom the event had to wait. On HAD_TO_WAIT of a pass or a claim *why has
+ * the phase of its task, and the tasks that owe it. If there are none, that phase is closed and its single isn't done. On
+ * each other answer, and if a signal had to wait, all its numbers are 0. MEMORY also if there is none to tell it by; the
+ * event may then be handed over again.
+ *
+ *     paldwosk_judged_why why;
+ *     answer = paldwosk_judge_event_with_owing(&judge, &passed, &why);
+ *     for (uint64_t at = 0; at < why.count && at < PALDWOSK_MOST_NAMED; at++)
+ *       fprintf(stderr, "task %" PRIu64 " hasn't signalled phase %" PRIu64 "\n", why.tasks[at], why.phase);
+ *     if (why.count > PALDWOSK_MOST_NAMED)
+ *       fprintf(stderr, "nor have %" PRIu64 " more\n", why.count - PALDWOSK_MOST_NAMED); */
+PALDWOSK_MUST_CHECK
+PALDWOSK_INLINE paldwosk_answer paldwosk_judge_event_with_owing(paldwosk_judge *judge, const paldwosk_judged_event *event,
+                                                                paldwosk_judged_why *why) {
+  if (!judge || !event || !why) return PALDWOSK_NULL;
+  return (paldwosk_answer)phaser_c_judge_event_with_owing(judge, event, why);
 }
 
 /* What the judge counted of the events that it accepted, and whether it is over. CLOSED: then nothing is written. */

@@ -132,6 +132,11 @@ paldwosk_answer paldwosk_so_judge_event(paldwosk_judge *judge, const paldwosk_ju
   return paldwosk_judge_event(judge, event);
 }
 
+paldwosk_answer paldwosk_so_judge_event_with_owing(paldwosk_judge *judge, const paldwosk_judged_event *event,
+                                                   paldwosk_judged_why *why) {
+  return paldwosk_judge_event_with_owing(judge, event, why);
+}
+
 paldwosk_answer paldwosk_so_judge_totals(paldwosk_judge *judge, paldwosk_judged_totals *totals) {
   return paldwosk_judge_totals(judge, totals);
 }

@@ -392,6 +392,74 @@ static void early_pass(paldwosk_judge *judge) {
   MUST(told.events == 3 && told.made == 1 && told.registrations == 2 && told.signals == 1 && told.passes == 0);
 }
 
+/* Whether the event is answered so, and is told to have waited in this phase for these tasks: so many, and the first of them. */
+static int waited(paldwosk_judge *judge, paldwosk_judged_kind kind, uint64_t task, paldwosk_answer wanted, uint64_t phase,
+                  uint64_t count, const uint64_t tasks[PALDWOSK_MOST_NAMED]) {
+  const paldwosk_judged_event event = happened(7, kind, task);
+  paldwosk_judged_why why;
+  memset(&why, 0xa5, sizeof why); /* each number is written at each answer */
+  const paldwosk_answer answer = paldwosk_judge_event_with_owing(judge, &event, &why);
+  return answer == wanted && why.phase == phase && why.count == count && !memcmp(why.tasks, tasks, sizeof why.tasks);
+}
+
+static int waited_for_none(paldwosk_judge *judge, paldwosk_judged_kind kind, uint64_t task, paldwosk_answer wanted) {
+  return waited(judge, kind, task, wanted, 0, 0, (const uint64_t[PALDWOSK_MOST_NAMED]){0});
+}
+
+/* Task 1 passes phase 0 with all others, and phase 1 before two of them have signalled that. Task 5 only waits. */
+static void early_pass_told(paldwosk_judge *judge) {
+  const uint64_t others[] = {MOST, 3, HALF};
+  MUST(judge_make(judge, 7, 1, PALDWOSK_SIG_WAIT) == PALDWOSK_DONE);
+  for (int at = 0; at < 3; at++) MUST(judge_reg(judge, 7, 1, others[at], PALDWOSK_SIG_WAIT) == PALDWOSK_DONE);
+  MUST(judge_reg(judge, 7, 1, 5, PALDWOSK_WAIT) == PALDWOSK_DONE);
+  MUST(waited_for_none(judge, PALDWOSK_JUDGED_SIG, 1, PALDWOSK_DONE));
+  for (int at = 0; at < 3; at++) MUST(waited_for_none(judge, PALDWOSK_JUDGED_SIG, others[at], PALDWOSK_DONE));
+  MUST(waited_for_none(judge, PALDWOSK_JUDGED_PASS, 1, PALDWOSK_DONE));
+  MUST(waited_for_none(judge, PALDWOSK_JUDGED_PASS, 3, PALDWOSK_DONE));
+  MUST(waited_for_none(judge, PALDWOSK_JUDGED_SIG, 3, PALDWOSK_DONE));
+  MUST(waited_for_none(judge, PALDWOSK_JUDGED_SIG, 1, PALDWOSK_DONE));
+  MUST(waited_for_none(judge, (paldwosk_judged_kind)11, 1, PALDWOSK_BAD_KIND));
+  MUST(waited(judge, PALDWOSK_JUDGED_PASS, 1, PALDWOSK_HAD_TO_WAIT, 1, 2, (const uint64_t[PALDWOSK_MOST_NAMED]){MOST, HALF}));
+  MUST(waited_for_none(judge, PALDWOSK_JUDGED_PASS, 1, PALDWOSK_OVER));
+  MUST(counts(judge, (const uint64_t[8]){13, 1, 1, 5, 6, 2, 0, 0}, 1));
+}
+
+/* Sixteen tasks are named, in the order of their registration, and a seventeenth is counted. */
+static void many_told(paldwosk_judge *judge) {
+  MUST(judge_make(judge, 7, 99, PALDWOSK_SIG_WAIT) == PALDWOSK_DONE);
+  for (uint64_t child = 17; child > 0; child--) MUST(judge_reg(judge, 7, 99, child, PALDWOSK_SIG) == PALDWOSK_DONE);
+  MUST(waited_for_none(judge, PALDWOSK_JUDGED_SIG, 99, PALDWOSK_DONE));
+  MUST(waited(judge, PALDWOSK_JUDGED_PASS, 99, PALDWOSK_HAD_TO_WAIT, 0, 17,
+              (const uint64_t[PALDWOSK_MOST_NAMED]){17, 16, 15, 14, 13, 12, 11, 10, 9, 8, 7, 6, 5, 4, 3, 2}));
+}
+
+/* A claim waits for those who owe the phase. A pass of a closed phase whose single isn't done waits for none of them. By the
+ * bound of 2 a third signal waits, and names nobody. Another refusal names nobody either. */
+static void singles_told(paldwosk_judge *judge) {
+  MUST(judge_make(judge, 7, 1, PALDWOSK_SINGLE) == PALDWOSK_DONE);
+  MUST(judge_reg(judge, 7, 1, 2, PALDWOSK_SINGLE) == PALDWOSK_DONE);
+  MUST(judge_single(judge, 7, 1, 4) == PALDWOSK_DONE);
+  MUST(waited(judge, PALDWOSK_JUDGED_CLAIM, 1, PALDWOSK_HAD_TO_WAIT, 0, 1, (const uint64_t[PALDWOSK_MOST_NAMED]){2}));
+  renewed(judge);
+  MUST(judge_make(judge, 7, 1, PALDWOSK_SINGLE) == PALDWOSK_DONE);
+  MUST(judge_reg(judge, 7, 1, 2, PALDWOSK_SINGLE) == PALDWOSK_DONE);
+  for (uint64_t task = 1; task <= 2; task++) MUST(judge_act(judge, 7, PALDWOSK_JUDGED_SIG, task) == PALDWOSK_DONE);
+  for (uint64_t task = 1; task <= 2; task++) MUST(judge_act(judge, 7, PALDWOSK_JUDGED_PASS, task) == PALDWOSK_DONE);
+  for (uint64_t task = 1; task <= 2; task++) MUST(judge_single(judge, 7, task, 4) == PALDWOSK_DONE);
+  MUST(waited_for_none(judge, PALDWOSK_JUDGED_CLAIM, 2, PALDWOSK_DONE));
+  MUST(waited(judge, PALDWOSK_JUDGED_PASS, 1, PALDWOSK_HAD_TO_WAIT, 1, 0, (const uint64_t[PALDWOSK_MOST_NAMED]){0}));
+  renewed(judge);
+  MUST(judge_make(judge, 7, 1, PALDWOSK_SIG_WAIT) == PALDWOSK_DONE);
+  MUST(judge_reg(judge, 7, 1, 2, PALDWOSK_SIG) == PALDWOSK_DONE);
+  for (int at = 0; at < 2; at++) {
+    MUST(waited_for_none(judge, PALDWOSK_JUDGED_SIG, 2, PALDWOSK_DONE));
+    MUST(waited_for_none(judge, PALDWOSK_JUDGED_PASS, 2, PALDWOSK_DONE));
+  }
+  MUST(waited_for_none(judge, PALDWOSK_JUDGED_SIG, 2, PALDWOSK_HAD_TO_WAIT));
+  renewed(judge);
+  MUST(waited_for_none(judge, PALDWOSK_JUDGED_PASS, 1, PALDWOSK_NOT_MADE));
+}
+
 /* A task's number, and then the phaser's, are used again after they were freed, and not before. */
 static void used_again(paldwosk_judge *judge) {
   MUST(judge_make(judge, 7, 1, PALDWOSK_SIG_WAIT) == PALDWOSK_DONE);
@@ -491,23 +559,30 @@ static void judged_numbers(paldwosk_judge *judge) {
 static void no_judge(paldwosk_judge *judge) {
   const paldwosk_judged_event event = made_with(7, 1, PALDWOSK_SIG, PALDWOSK_SUM);
   paldwosk_judged_totals told;
+  paldwosk_judged_why why;
   memset(&told, 0x77, sizeof told);
+  memset(&why, 0x77, sizeof why);
   const paldwosk_judged_totals before = told;
+  const paldwosk_judged_why unwritten = why;
   MUST(paldwosk_judge_new(NULL) == PALDWOSK_NULL);
   MUST(paldwosk_judge_event(NULL, &event) == PALDWOSK_NULL);
   MUST(paldwosk_judge_event(judge, NULL) == PALDWOSK_NULL);
+  MUST(paldwosk_judge_event_with_owing(NULL, &event, &why) == PALDWOSK_NULL);
+  MUST(paldwosk_judge_event_with_owing(judge, NULL, &why) == PALDWOSK_NULL);
+  MUST(paldwosk_judge_event_with_owing(judge, &event, NULL) == PALDWOSK_NULL);
   MUST(paldwosk_judge_totals(NULL, &told) == PALDWOSK_NULL);
   MUST(paldwosk_judge_totals(judge, NULL) == PALDWOSK_NULL);
   MUST(paldwosk_judge_event(judge, &event) == PALDWOSK_CLOSED);
+  MUST(waited_for_none(judge, PALDWOSK_JUDGED_PASS, 1, PALDWOSK_CLOSED));
   MUST(paldwosk_judge_totals(judge, &told) == PALDWOSK_CLOSED);
   paldwosk_judge_free(NULL);
   paldwosk_judge_free(judge);
-  MUST(!memcmp(&told, &before, sizeof told) && judge->held == NULL);
+  MUST(!memcmp(&told, &before, sizeof told) && !memcmp(&why, &unwritten, sizeof why) && judge->held == NULL);
 }
 
 static int judge(void) {
-  void (*const parts[])(paldwosk_judge *) = {judged_barrier, early_pass,   used_again,    judged_single,
-                                             judged_values,  judged_rules, judged_numbers};
+  void (*const parts[])(paldwosk_judge *) = {judged_barrier, early_pass,   early_pass_told, many_told,     singles_told,
+                                             used_again,     judged_single, judged_values,  judged_rules, judged_numbers};
   paldwosk_judge held = PALDWOSK_NO_JUDGE;
   no_judge(&held);
   MUST(paldwosk_judge_new(&held) == PALDWOSK_DONE);
@@ -519,12 +594,13 @@ static int judge(void) {
   return 0;
 }
 
-/* The events of a barrier of two tasks, and of one made with the greatest bound. An event to which memory is refused
- * changes nothing, and is handed over again. Status 1: memory is refused twice in a row. */
+/* The events of a barrier of two tasks, of one made with the greatest bound, and of one with an early pass. An event to which
+ * memory is refused changes nothing, and is handed over again. Status 1: memory is refused twice in a row. */
 static int lacking(void) {
   const paldwosk_judged_kind turns[] = {PALDWOSK_JUDGED_SIG, PALDWOSK_JUDGED_PASS, PALDWOSK_JUDGED_DROP};
   paldwosk_judge held = PALDWOSK_NO_JUDGE;
-  paldwosk_judged_event events[10] = {made_with(7, 1, PALDWOSK_SIG_WAIT, PALDWOSK_SUM)};
+  paldwosk_judged_event events[13] = {made_with(7, 1, PALDWOSK_SIG_WAIT, PALDWOSK_SUM)};
+  const paldwosk_judged_event early = happened(9, PALDWOSK_JUDGED_PASS, 1);
   paldwosk_judged_totals before, told;
   size_t count = 0;
   if (paldwosk_judge_new(&held) && paldwosk_judge_new(&held)) return 1;
@@ -535,6 +611,10 @@ static int lacking(void) {
   events[count++].bound = 65536;
   for (int at = 0; at < 6; at++) events[count++] = happened(7, turns[at / 2], 1 + (uint64_t)at % 2);
   events[count++] = happened(8, PALDWOSK_JUDGED_DROP, 1);
+  events[count++] = made_with(9, 1, PALDWOSK_SIG_WAIT, PALDWOSK_SUM);
+  events[count] = events[1];
+  events[count++].phaser = 9;
+  events[count++] = happened(9, PALDWOSK_JUDGED_SIG, 1);
   for (size_t at = 0; at < count; at++) {
     MUST(paldwosk_judge_totals(&held, &before) == PALDWOSK_DONE);
     paldwosk_answer answer = paldwosk_judge_event(&held, &events[at]);
@@ -549,7 +629,18 @@ static int lacking(void) {
     }
     MUST(answer == PALDWOSK_DONE);
   }
-  MUST(counts(&held, (const uint64_t[8]){10, 2, 0, 3, 2, 2, 3, 0}, 0));
+  paldwosk_judged_why why;
+  paldwosk_answer answer = paldwosk_judge_event_with_owing(&held, &early, &why);
+  if (answer == PALDWOSK_MEMORY) {
+    MUST(counts(&held, (const uint64_t[8]){13, 3, 1, 5, 3, 2, 3, 0}, 0) && why.phase == 0 && why.count == 0);
+    answer = paldwosk_judge_event_with_owing(&held, &early, &why);
+    if (answer == PALDWOSK_MEMORY) {
+      paldwosk_judge_free(&held);
+      return 1;
+    }
+  }
+  MUST(answer == PALDWOSK_HAD_TO_WAIT && why.phase == 0 && why.count == 1 && why.tasks[0] == 2);
+  MUST(counts(&held, (const uint64_t[8]){13, 3, 1, 5, 3, 2, 3, 0}, 1));
   paldwosk_judge_free(&held);
   return 0;
 }

@@ -1,6 +1,8 @@
 //! A judge of the events of phasers, as they come.
 use crate::answers::{Look, Mode, Operator, Refusal};
 use crate::archive::*;
+use std::error::Error;
+use std::fmt;
 use std::ptr::null_mut;
 
 /// What happened at a phaser. Tasks go by whatever numbers the program gives them. Accumulators are numbered from 0.
@@ -111,6 +113,9 @@ const NO_TOTALS: GivenTotals = GivenTotals {
     over: 0,
 };
 
+/// Nobody for whom an event had to wait.
+const NOBODY: GivenWhy = GivenWhy { phase: 0, count: 0, tasks: [0; MOST_NAMED] };
+
 /// The making of a phaser, as the archive takes it.
 fn given_make(task: u64, mode: Mode, operators: &[Operator], bound: Option<u32>) -> GivenEvent {
     let bound = match bound {
@@ -188,6 +193,63 @@ pub struct Totals {
     pub sends: u64,
 }
 
+/// Why an event was refused, and for whom its task had to wait: what [`Judge::event_with_owing`] answers.
+///
+/// ```
+/// use paldwosk::{Judge, JudgedEvent, JudgeRefusal, Refusal};
+///
+/// # fn main() -> Result<(), Refusal> {
+/// let unmade = Judge::new()?.event_with_owing(7, &JudgedEvent::Pass { task: 1 });
+/// let JudgeRefusal { refusal, tasks, .. } = unmade.unwrap_err();
+/// assert_eq!((refusal, tasks), (Refusal::NotMade, vec![]));
+/// # Ok(())
+/// # }
+/// ```
+#[derive(Clone, Debug, PartialEq, Eq)]
+#[non_exhaustive]
+pub struct JudgeRefusal {
+    /// Why the event can't be.
+    pub refusal: Refusal,
+    /// If a pass or a claim had to wait, the phase at which its task stands; else 0.
+    pub phase: u64,
+    /// How many tasks are registered, can signal, and haven't signalled that phase. If there are none, its single isn't done.
+    pub count: u64,
+    /// The first 16 of these tasks, in the order of their registration.
+    pub tasks: Vec<u64>,
+}
+
+impl JudgeRefusal {
+    /// What the archive answered, and told.
+    fn of(number: u32, why: &GivenWhy) -> JudgeRefusal {
+        let named = usize::try_from(why.count).unwrap_or(MOST_NAMED).min(MOST_NAMED);
+        let (refusal, tasks) = (Refusal::of(number), why.tasks[..named].to_vec());
+        JudgeRefusal { refusal, phase: why.phase, count: why.count, tasks }
+    }
+}
+
+impl fmt::Display for JudgeRefusal {
+    fn fmt(&self, f: &mut fmt::Formatter<'_>) -> fmt::Result {
+        write!(f, "{}", self.refusal)?;
+        if self.count == 0 {
+            return Ok(());
+        }
+        let named: Vec<String> = self.tasks.iter().map(u64::to_string).collect();
+        write!(f, " Phase {} isn't signalled by task {}", self.phase, named.join(", "))?;
+        match self.count.saturating_sub(self.tasks.len() as u64) {
+            0 => write!(f, "."),
+            more => write!(f, ", and by {more} more."),
+        }
+    }
+}
+
+impl Error for JudgeRefusal {}
+
+impl From<JudgeRefusal> for Refusal {
+    fn from(refused: JudgeRefusal) -> Refusal {
+        refused.refusal
+    }
+}
+
 /// A judge of the events of any number of phasers, which are handed over one after the other. It stores none of them: its
 /// memory is that of the phasers that are there and of the tasks registered on them, however long they live. So a program
 /// judges its own phasers and barriers while it runs, from a channel or a ring of events.
@@ -241,6 +303,33 @@ impl Judge {
         match unsafe { phaser_c_judge_event(&mut self.handle, &event.given(phaser)) } {
             0 => Ok(()),
             number => Err(Refusal::of(number)),
+        }
+    }
+
+    /// The same as [`event`](Judge::event), and tells for whom the event had to wait, if it did.
+    ///
+    /// ```
+    /// use paldwosk::{Judge, JudgedEvent, Mode, Refusal};
+    ///
+    /// # fn main() -> Result<(), Refusal> {
+    /// let (mode, phaser) = (Mode::SigWait, 7);
+    /// let mut judge = Judge::new()?;
+    /// judge.event(phaser, &JudgedEvent::Make { task: 1, mode, operators: vec![], bound: Some(2) })?;
+    /// for child in [2, 3] {
+    ///     judge.event(phaser, &JudgedEvent::Register { parent: 1, child, mode })?;
+    /// }
+    /// judge.event(phaser, &JudgedEvent::Signal { task: 1, single: None })?;
+    /// let early = judge.event_with_owing(phaser, &JudgedEvent::Pass { task: 1 }).unwrap_err();
+    /// assert_eq!((early.refusal, early.phase, early.tasks.as_slice()), (Refusal::HadToWait, 0, &[2, 3][..]));
+    /// assert!(early.to_string().ends_with(" Phase 0 isn't signalled by task 2, 3."));
+    /// # Ok(())
+    /// # }
+    /// ```
+    pub fn event_with_owing(&mut self, phaser: u64, event: &JudgedEvent) -> Result<(), JudgeRefusal> {
+        let mut why = NOBODY;
+        match unsafe { phaser_c_judge_event_with_owing(&mut self.handle, &event.given(phaser), &mut why) } {
+            0 => Ok(()),
+            number => Err(JudgeRefusal::of(number, &why)),
         }
     }
 

@@ -56,7 +56,7 @@ use paldwosk_sys as archive;
 pub use answers::{Look, Mode, Operator, Passing, Refusal, Signalling};
 pub use barrier::{Barrier, BarrierWaitResult};
 pub use checker::{events, replay, Refused};
-pub use judge::{Judge, JudgedEvent, Totals};
+pub use judge::{Judge, JudgeRefusal, JudgedEvent, Totals};
 pub use phaser::{Phaser, Task};
 pub use phaser_state::{Limits, PhaserState};
 pub use scope::{Scope, ScopedThread};

@@ -1,5 +1,5 @@
 //! The judge of events: lists that were worked out by hand, and a program that judges itself.
-use paldwosk::{Judge, JudgedEvent, Look, Mode, Operator, Refusal, Totals};
+use paldwosk::{Judge, JudgeRefusal, JudgedEvent, Look, Mode, Operator, Refusal, Totals};
 use std::sync::mpsc::sync_channel;
 use std::sync::{Arc, Barrier, Mutex};
 use std::thread;
@@ -69,6 +69,71 @@ fn after_an_early_pass_the_judge_is_over() -> Result<(), Refusal> {
     assert_eq!(judge.event(8, &make(1, MODE, &[])), Err(Refusal::Over));
     assert!(judge.is_over());
     assert_eq!((judge.totals().events, judge.totals().passes), (3, 0));
+    Ok(())
+}
+
+/// What is told of an event that is refused, in the order of the fields.
+fn told(refused: Result<(), JudgeRefusal>) -> (Refusal, u64, u64, Vec<u64>) {
+    let JudgeRefusal { refusal, phase, count, tasks, .. } = refused.unwrap_err();
+    (refusal, phase, count, tasks)
+}
+
+#[test]
+fn an_early_pass_names_who_has_not_signalled() -> Result<(), Refusal> {
+    let mut judge = Judge::new()?;
+    judge.event_with_owing(7, &make(1, MODE, &[]))?;
+    for child in [u64::MAX, 3, 1 << 63] {
+        judge.event_with_owing(7, &register(1, child, MODE))?;
+    }
+    judge.event_with_owing(7, &register(1, 5, Mode::Wait))?; // it owes no signal
+    judge.event_with_owing(7, &signal(1))?;
+    judge.event_with_owing(7, &signal(3))?;
+    let early = judge.event_with_owing(7, &pass(1));
+    assert_eq!(told(early), (Refusal::HadToWait, 0, 2, vec![u64::MAX, 1 << 63]));
+    assert_eq!(told(judge.event_with_owing(7, &signal(1 << 63))), (Refusal::Over, 0, 0, vec![]));
+    assert_eq!(judge.event(7, &signal(1 << 63)), Err(Refusal::Over));
+    Ok(())
+}
+
+#[test]
+fn of_many_the_first_are_named() -> Result<(), Refusal> {
+    let mut judge = Judge::new()?;
+    judge.event_with_owing(7, &make(0, MODE, &[]))?;
+    for child in 1..=17 {
+        judge.event_with_owing(7, &register(0, child, MODE))?;
+    }
+    for task in 0..=17 {
+        judge.event_with_owing(7, &signal(task))?;
+    }
+    judge.event_with_owing(7, &pass(0))?;
+    judge.event_with_owing(7, &signal(0))?;
+    let early = judge.event_with_owing(7, &pass(0)).unwrap_err();
+    let words = "Phase 1 isn't signalled by task 1, 2, 3, 4, 5, 6, 7, 8, 9, 10, 11, 12, 13, 14, 15, 16, and by 1 more.";
+    assert!(early.to_string().ends_with(words), "{early}");
+    assert_eq!(told(Err(early)), (Refusal::HadToWait, 1, 17, (1..=16).collect()));
+    Ok(())
+}
+
+#[test]
+fn a_signal_and_a_single_wait_for_nobody_by_name() -> Result<(), Refusal> {
+    let mut judge = Judge::new()?; // by the bound of 2 a third signal has to wait until task 1 passes
+    judge.event_with_owing(7, &make(1, MODE, &[]))?;
+    judge.event_with_owing(7, &register(1, 2, Mode::Sig))?;
+    for _ in 0..2 {
+        judge.event_with_owing(7, &signal(2))?;
+        judge.event_with_owing(7, &pass(2))?; // it waits for nobody
+    }
+    assert_eq!(told(judge.event_with_owing(7, &signal(2))), (Refusal::HadToWait, 0, 0, vec![]));
+    let mut judge = Judge::new()?; // task 2 claims the single of phase 0, and hasn't done it
+    judge.event_with_owing(7, &make(1, Mode::Single, &[]))?;
+    judge.event_with_owing(7, &register(1, 2, Mode::Single))?;
+    for task in [1, 2] {
+        judge.event_with_owing(7, &JudgedEvent::Signal { task, single: Some(9) })?;
+    }
+    judge.event_with_owing(7, &JudgedEvent::Claim { task: 2 })?;
+    let early = judge.event_with_owing(7, &pass(1)).unwrap_err();
+    assert_eq!(early.to_string(), Refusal::HadToWait.to_string());
+    assert_eq!(told(Err(early)), (Refusal::HadToWait, 0, 0, vec![]));
     Ok(())
 }
 

@@ -119,6 +119,21 @@ pub struct GivenTotals {
     pub over: u32,
 }
 
+/// `PALDWOSK_MOST_NAMED`: how many of the tasks for which an event had to wait a `GivenWhy` names.
+pub const MOST_NAMED: usize = 16;
+
+/// `paldwosk_judged_why`: for whom an event had to wait.
+#[repr(C)]
+#[derive(Clone, Copy)]
+pub struct GivenWhy {
+    /// Of a pass and a claim, the phase at which their task stands; else 0.
+    pub phase: u64,
+    /// How many tasks owe it: 0 to 256.
+    pub count: u64,
+    /// The first of them, in the order of their registration. Behind fewer stand zeros.
+    pub tasks: [u64; MOST_NAMED],
+}
+
 /// `PALDWOSK_MOST_FREED`: how many tasks may wait at once, and be freed by one call.
 pub const MOST_FREED: usize = 256;
 
@@ -145,6 +160,7 @@ unsafe extern "C" {
     pub fn phaser_c_judge_new(judge: &mut Handle) -> u32;
     pub fn phaser_c_judge_free(judge: &mut Handle);
     pub fn phaser_c_judge_event(judge: &mut Handle, event: &GivenEvent) -> u32;
+    pub fn phaser_c_judge_event_with_owing(judge: &mut Handle, event: &GivenEvent, why: &mut GivenWhy) -> u32;
     pub fn phaser_c_judge_totals(judge: &mut Handle, totals: &mut GivenTotals) -> u32;
     pub fn phaser_c_new(
         phaser: &mut Handle,
