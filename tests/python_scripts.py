@@ -641,7 +641,7 @@ timed out
 True 4 []
 """)
 SCRIPTS["the judge"] = ("""
-from paldwosk.judge import Claim, Did, Event, Join, Leave, Look, Make, Pass, Send, Signal
+from paldwosk.judge import Claim, Did, Event, EventRefusal, Join, Leave, Look, Make, Pass, Send, Signal
 made = Make(phaser=2**64 - 1, task=7, mode=Mode.SIG_WAIT, operators=[Operator.SUM, Operator.LEAST], bound=2)
 first = [made] + [kind(made.phaser, *words) for kind, *words in (
     (Join, 7, 2**63, Mode.SIG_WAIT), (Send, 7, 0, -2**31), (Signal, 7), (Signal, 2**63), (Pass, 7), (Look, 7, 0, -2**31), (Look, 7, 1, None),
@@ -657,6 +657,19 @@ def fault(*events):
     told = refused(judge.event, events[-1])
     print(told.split(":")[0], told.endswith(": %r" % (events[-1],)), refused(judge.event, single[0])[:7], judge.totals().is_over)
 
+def owing(*events):
+    judge = Judge()
+    [judge.event(it) for it in events[:-1]]
+    try:
+        judge.event(events[-1])
+    except EventRefusal as refusal:
+        told = str(refusal).rpartition("; ")[2].rpartition(": ")[0]
+        print(refusal.answer, refusal.phase, refusal.count, refusal.tasks, told)
+
+owing(*first[:2], Join(made.phaser, 7, 0, Mode.SIG_WAIT), first[3], first[5])
+owing(*first[:6], first[8], first[3], Join(made.phaser, 2**63, 0, Mode.WAIT), first[5])
+owing(made, *(Join(made.phaser, 7, it, Mode.SIG) for it in range(101, 119)), first[3], first[5])
+owing(first[5])
 fault(*first[:4], first[5])
 fault(*first[:4], first[3])
 fault(*first[:6], Look(made.phaser, 7, 0, 5))
@@ -678,6 +691,10 @@ for no_event in (Event(0, 0), ("make", 0, 0)):
 run_all([lambda it=it: [judge.event(event) for turn in range(300) for event in (Make(it, 0, 2, (), 2), Leave(it, 0))] for it in range(4)])
 print(judge.totals().events, judge.totals().there)
 """, """Totals(events=16, made=2, there=1, registrations=3, signals=3, passes=3, drops=2, sends=1, is_over=False)
+83 0 2 (9223372036854775808, 0) phase 0 isn't signalled by task 9223372036854775808, 0
+83 1 1 (9223372036854775808,) phase 1 isn't signalled by task 9223372036854775808
+83 0 18 (101, 102, 103, 104, 105, 106, 107, 108, 109, 110, 111, 112, 113, 114, 115, 116) phase 0 isn't signalled by task 101, 102, 103, 104, 105, 106, 107, 108, 109, 110, 111, 112, 113, 114, 115, 116, and by 2 more
+80 0 0 () see that its make is handed over first
 83 HadToWait (83) True 87 Over True
 5 AlreadySignalled (5) True 87 Over True
 86 SawOther (86) True 87 Over True

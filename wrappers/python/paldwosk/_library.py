@@ -39,6 +39,12 @@ class HeldTotals(ctypes.Structure):
                 ("drops", c_uint64), ("sends", c_uint64), ("over", c_uint32)]
 
 
+class HeldWhy(ctypes.Structure):
+    """A paldwosk_judged_why."""
+
+    _fields_ = [("phase", c_uint64), ("count", c_uint64), ("tasks", c_uint64 * 16)]
+
+
 STATEMENT = ctypes.CFUNCTYPE(None, c_void_p)  # what runs in a single
 
 # Of each function what it takes. Each answers a number of 32 bits, but for those of _RESULTS.
@@ -72,7 +78,7 @@ _FUNCTIONS: Dict[str, Any] = {
     "events": [c_char_p, c_size_t, c_char_p, c_size_t, _COUNT],
     "judge_new": [POINTER(c_void_p)],
     "judge_free": [POINTER(c_void_p)],
-    "judge_event": [POINTER(c_void_p), POINTER(HeldEvent)],
+    "judge_event_with_owing": [POINTER(c_void_p), POINTER(HeldEvent), POINTER(HeldWhy)],
     "judge_totals": [POINTER(c_void_p), POINTER(HeldTotals)],
 }
 _RESULTS: Dict[str, Any] = {"answer_text": c_char_p, "barrier_size": c_size_t, "judge_free": None}

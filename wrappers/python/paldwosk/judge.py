@@ -9,14 +9,14 @@ import threading
 import weakref
 from ctypes import c_void_p
 from dataclasses import dataclass
-from typing import NamedTuple, Optional, Sequence
+from typing import NamedTuple, Optional, Sequence, Tuple
 
-from ._library import CALLS, HeldEvent, HeldTotals, must, text_of, within
+from ._library import CALLS, HeldEvent, HeldTotals, HeldWhy, must, text_of, within
 from .modes import Mode, Operator
 from .refusal import Refusal
 
-__all__ = ["Claim", "Did", "Event", "Join", "Judge", "Leave", "Look", "Make", "Pass", "Send",
-           "Signal", "Totals"]
+__all__ = ["Claim", "Did", "Event", "EventRefusal", "Join", "Judge", "Leave", "Look", "Make",
+           "Pass", "Send", "Signal", "Totals"]
 
 
 @dataclass(frozen=True)
@@ -108,6 +108,24 @@ class Totals(NamedTuple):
     is_over: bool  # an event was refused
 
 
+class EventRefusal(Refusal):
+    """An event was refused.
+
+    If a pass or a claim had to wait, `phase` is that at which its task stands, `count` says how
+    many tasks are registered, can signal, and haven't signalled it, and `tasks` has the first 16
+    of them, in the order of their registration. Else they are 0, 0 and `()`.
+    """
+
+    phase: int
+    count: int
+    tasks: Tuple[int, ...]
+
+    def __init__(self, answer: int, text: str, phase: int = 0, count: int = 0,
+                 tasks: Tuple[int, ...] = ()) -> None:
+        super().__init__(answer, text)
+        self.phase, self.count, self.tasks = phase, count, tasks
+
+
 class Judge:
     """Says of each event whether it can be, after those before it.
 
@@ -125,9 +143,11 @@ class Judge:
     >>> judge.event(Signal(phaser=0, task=0))
     >>> try:
     ...     judge.event(Pass(phaser=0, task=0))  # task 1 hasn't signalled
-    ... except Refusal as refusal:
-    ...     print(refusal.answer, str(refusal)[:14], str(refusal)[-22:])
-    83 HadToWait (83) Pass(phaser=0, task=0)
+    ... except EventRefusal as refusal:
+    ...     print(refusal.answer, refusal.phase, refusal.tasks)
+    ...     print(str(refusal)[:14], str(refusal).rpartition("; ")[2])
+    83 0 (1,)
+    HadToWait (83) phase 0 isn't signalled by task 1: Pass(phaser=0, task=0)
     """
 
     def __init__(self) -> None:
@@ -139,17 +159,17 @@ class Judge:
     def event(self, event: Event) -> None:
         """Judges one event more.
 
-        `Refusal` says why it can't be: by 80 (NotMade) to 86 (SawOther), or by the answer that a
+        `EventRefusal` says why it can't be: by 80 (NotMade) to 86 (SawOther), or by the answer that a
         phaser gives to such a call, as 5 (AlreadySignalled). Then the judge is over, and refuses
         each event by 87 (Over). It isn't over after 70 (BadOperators) for more than four, nor
         after 23 (Memory): the event may be handed over again. `ValueError` for a number that isn't
         in its range, and for what is no `Operator`; `TypeError` for what is no event.
         """
-        held = _held(event)
+        held, why = _held(event), HeldWhy()
         with self._lock:
-            answer = CALLS["judge_event"](self._held, held)
+            answer = CALLS["judge_event_with_owing"](self._held, held, why)
         if answer:
-            raise Refusal(answer, "%s: %r" % (text_of(answer), event))
+            raise _refusal(answer, event, why)
 
     def totals(self) -> Totals:
         """What it counted of the events that it accepted.
@@ -171,6 +191,17 @@ _BITS_32, _BITS_64 = (0, 2**32 - 1), (0, 2**64 - 1)
 _RANGES = {"phaser": _BITS_64, "task": _BITS_64, "child": _BITS_64, "single": _BITS_32,
            "index": _BITS_32, "bound": (1, 65536), "value": (-2**31, 2**31 - 1),
            "seen": (-2**63, 2**63 - 1), "mode": (0, 3)}
+
+
+def _refusal(answer: int, event: Event, why: HeldWhy) -> EventRefusal:
+    """Why the event can't be, and for whom it had to wait."""
+    tasks, owing = tuple(why.tasks[:min(why.count, len(why.tasks))]), ""
+    if tasks:
+        owing = "; phase %d isn't signalled by task %s" % (why.phase, ", ".join(map(str, tasks)))
+    if why.count > len(tasks):
+        owing += ", and by %d more" % (why.count - len(tasks))
+    text = "%s%s: %r" % (text_of(answer), owing, event)
+    return EventRefusal(answer, text, why.phase, why.count, tasks)
 
 
 def _held(event: Event) -> HeldEvent:
