@@ -392,7 +392,7 @@ static void early_pass(paldwosk_judge *judge) {
   MUST(told.events == 3 && told.made == 1 && told.registrations == 2 && told.signals == 1 && told.passes == 0);
 }
 
-/* Whether the event is answered so, and is told to have waited in this phase for so many tasks, the first of which are these. */
+/* Whether the event is answered so, and *why says this phase, so many tasks, and these of them. */
 static int waited(paldwosk_judge *judge, paldwosk_judged_kind kind, uint64_t task, paldwosk_answer wanted, uint64_t phase,
                   uint64_t count, const uint64_t tasks[PALDWOSK_MOST_NAMED]) {
   const paldwosk_judged_event event = happened(7, kind, task);

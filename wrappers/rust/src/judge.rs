@@ -306,7 +306,8 @@ impl Judge {
         }
     }
 
-    /// The same as [`event`](Judge::event), and tells for whom the event had to wait, if it did.
+    /// The same as [`event`](Judge::event), and tells for whom the event had to wait, if it did. `Memory` also if there is none to
+    /// tell it by.
     ///
     /// ```
     /// use paldwosk::{Judge, JudgedEvent, Mode, Refusal};
