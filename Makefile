@@ -14,7 +14,7 @@ own_folders := include/paldwosk lib/cmake/paldwosk libexec/paldwosk share/paldwo
 own_files := bin/phaser_run bin/phaser-check bin/phaser-picture \
   lib/libpaldwosk.a lib/libpaldwosk.so lib/libpaldwosk.so.[0-9]* lib/pkgconfig/paldwosk.pc \
   share/man/man1/phaser_run.1 share/man/man1/phaser-check.1 share/man/man1/phaser-picture.1 \
-  share/man/man3/paldwosk_barrier.3 share/man/man5/paldwosk-trace.5 \
+  share/man/man3/paldwosk_*.3 share/man/man5/paldwosk-trace.5 \
   share/bash-completion/completions/phaser_run share/zsh/site-functions/_phaser_run \
   share/fish/vendor_completions.d/phaser_run.fish
 
