@@ -429,6 +429,36 @@ uint32_t phaser_c_waiting_level(paldwosk_waiting *phaser, const uint64_t *tasks,
 uint32_t phaser_c_waiting_round(paldwosk_waiting *phaser, const paldwosk_given_send *sends, size_t send_count,
                                 const uint64_t *tasks, size_t task_count, uint64_t phase, size_t *made);
 
+/* Tasks that stand level at a phaser, without a lock: each comes once in a phase, and who comes last makes the round of all.
+ * These aren't public calls yet. Each task has a paldwosk_level_task of its own; any number of threads may be in the calls
+ * at once, each with another. No call waits: what can't be made now is answered NOT_YET, and is asked again. CLOSED: there is
+ * no task. NOT_NOW: the task doesn't stand, as it has to for each call but look, or doesn't wait, as it has to for look.
+ * HISTORY_FULL: there is no room for a round, and those who have come wait for ever. On any other answer but DONE nothing has
+ * changed, but that a task waits which has come. */
+typedef struct paldwosk_level_task {
+  void *held; /* NULL while there is no task */
+} paldwosk_level_task;
+
+/* Makes a phaser and its first task, in phase 0, with the operators and the bound of phaser_c_waiting_new. OPEN,
+ * BAD_OPERATORS, BAD_BOUND, MEMORY. */
+uint32_t phaser_c_level_new(paldwosk_level_task *task, const uint32_t *operators, size_t count, uint32_t bound);
+/* Frees the task, and with the last one the phaser. A task that hasn't left stays registered: the others wait for it. */
+void phaser_c_level_free(paldwosk_level_task *task);
+/* A task joins by the first and stands where that does; it is put into `other`, which holds none. CLOSED, OPEN, NOT_NOW,
+ * MEMORY. NOT_YET: another call has the phaser, or 256 tasks are there, or their list has no memory. */
+uint32_t phaser_c_level_join(paldwosk_level_task *task, paldwosk_level_task *other);
+/* The task comes. DONE: it came last, and stands in the next phase. NOT_YET: it waits. CLOSED, NOT_NOW, HISTORY_FULL. */
+uint32_t phaser_c_level_come(paldwosk_level_task *task);
+/* Whether a task that has come may go on. DONE: it stands in the next phase. NOT_YET, CLOSED, NOT_NOW. */
+uint32_t phaser_c_level_look(paldwosk_level_task *task);
+/* The task leaves; it is to be freed all the same. NOT_YET: another call has the phaser. CLOSED, NOT_NOW. HISTORY_FULL: it has
+ * left, and all others had come. */
+uint32_t phaser_c_level_leave(paldwosk_level_task *task);
+/* A value is sent in the task's phase, or what was sent in the one before is looked at. NOT_YET: another call has the phaser.
+ * CLOSED, NOT_NOW, and the answers of phaser_c_waiting_send and phaser_c_waiting_look. */
+uint32_t phaser_c_level_send(paldwosk_level_task *task, uint8_t accumulator, int32_t value);
+uint32_t phaser_c_level_look_at(paldwosk_level_task *task, uint8_t accumulator, int64_t *value);
+
 /* ---- The checker */
 
 /* Replays the text of a trace (docs/formats.md), at most 67,108,864 bytes: makes its events again, one by one. If they are

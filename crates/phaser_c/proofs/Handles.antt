@@ -6,6 +6,8 @@ use Rattle.phaser_c.specs.contracts.handle.Handle.{the_type as handle_type}
 use Rattle.phaser_c.specs.contracts.waiting_handle.WaitingHandle.{the_type as waiting_handle_type}
 use Rattle.phaser_judge.specs.contracts.judge.Judge.{the_row as judge_row}
 use Rattle.phaser_c.specs.contracts.judge_handle.JudgeHandle.{the_type as judge_handle_type}
+use Rattle.phaser_c.specs.contracts.level_task.LevelTask.{the_row as level_row}
+use Rattle.phaser_c.specs.contracts.level_handle.LevelHandle.{the_type as level_handle_type}
 use Rattle.phaser_c.proofs.Held.{Holder}
 
 abbrev pub handle : Holder phaser_row
@@ -31,6 +33,16 @@ waiting_handle = record {
 abbrev pub judge_handle : Holder judge_row
 judge_handle = record {
   the_type = judge_handle_type;
+  at = λ d. d.at;
+  state = λ d. d.state;
+  make = λ p s. record { at = p; state = s };
+  at_made = λ p s. refl;
+  state_made = λ p s. refl;
+}
+
+abbrev pub level_handle : Holder level_row
+level_handle = record {
+  the_type = level_handle_type;
   at = λ d. d.at;
   state = λ d. d.state;
   make = λ p s. record { at = p; state = s };

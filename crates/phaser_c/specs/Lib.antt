@@ -10,6 +10,7 @@ pub mod History
 pub mod Judged
 pub mod JudgedGiven
 pub mod JudgedWhy
+pub mod LevelCalls
 pub mod RoundCalls
 pub mod Rounds
 pub mod Told

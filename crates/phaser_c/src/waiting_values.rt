@@ -19,7 +19,7 @@ const LEAST: i128 = -9_223_372_036_854_775_808;
 const GREATEST: i128 = 9_223_372_036_854_775_807;
 
 /// What is answered if a look returned this, and the value that it gives.
-fn give_seen(outcome: Result<LongLook, Refusal>, value: &mut i64) -> ExportAnswer
+pub(crate) fn give_seen(outcome: Result<LongLook, Refusal>, value: &mut i64) -> ExportAnswer
     ensures answer { result ≡ answer_seen outcome }
     ensures value { value.new ≡ value_seen value.old outcome }
 {

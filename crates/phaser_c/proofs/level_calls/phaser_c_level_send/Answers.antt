@@ -1,0 +1,12 @@
+use Rattle.phaser_c.specs.LevelCalls.{HasSent}
+use Rattle.phaser_c.specs.declared.answer.ExportAnswer.TheVariants.{Closed}
+use Rattle.phaser_c.proofs.LevelTasks.{closed_at}
+use Rattle.phaser_c.proofs.level_calls.phaser_c_level_send.Goals as goal
+
+-- src/level_calls.rt
+pub returns-in_default : goal.returns-in_default
+returns-in_default c = (
+  Closed,
+  c.number.ensures,
+  closed_at (HasSent c.args.accumulator c.args.value) c.args.task.now.state c.take.new.self.state c.in_default.ensures.taken c.take.ensures.closed,
+)
