@@ -434,7 +434,7 @@ uint32_t phaser_c_waiting_round(paldwosk_waiting *phaser, const paldwosk_given_s
  * at once, each with another. No call waits: what can't be made now is answered NOT_YET, and is asked again. CLOSED: there is
  * no task. NOT_NOW: the task doesn't stand, as it has to for each call but look, or doesn't wait, as it has to for look.
  * HISTORY_FULL: there is no room for a round, and those who have come wait for ever. On any other answer but DONE nothing has
- * changed, but that a task waits which has come. */
+ * changed, but that a task waits which has come, or has sent what it kept. */
 typedef struct paldwosk_level_task {
   void *held; /* NULL while there is no task */
 } paldwosk_level_task;
@@ -451,11 +451,12 @@ uint32_t phaser_c_level_join(paldwosk_level_task *task, paldwosk_level_task *oth
 uint32_t phaser_c_level_come(paldwosk_level_task *task);
 /* Whether a task that has come may go on. DONE: it stands in the next phase. NOT_YET, CLOSED, NOT_NOW. */
 uint32_t phaser_c_level_look(paldwosk_level_task *task);
-/* The task leaves; it is to be freed all the same. NOT_YET: another call has the phaser. CLOSED, NOT_NOW. HISTORY_FULL: it has
- * left, and all others had come. */
+/* The task leaves; it is to be freed all the same. NOT_YET: another call has the phaser, or the task kept a value, which is
+ * sent now. CLOSED, NOT_NOW. HISTORY_FULL: it has left, and all others had come. */
 uint32_t phaser_c_level_leave(paldwosk_level_task *task);
-/* A value is sent in the task's phase, or what was sent in the one before is looked at. NOT_YET: another call has the phaser.
- * CLOSED, NOT_NOW, and the answers of phaser_c_waiting_send and phaser_c_waiting_look. */
+/* A value is sent in the task's phase, or what was sent in the one before is looked at. A task keeps one value until it comes,
+ * if its number is below 256; then a send asks nobody. NOT_YET: another call has the phaser. CLOSED, NOT_NOW, and the answers of
+ * phaser_c_waiting_send and phaser_c_waiting_look. */
 uint32_t phaser_c_level_send(paldwosk_level_task *task, uint8_t accumulator, int32_t value);
 uint32_t phaser_c_level_look_at(paldwosk_level_task *task, uint8_t accumulator, int64_t *value);
 

@@ -43,3 +43,9 @@ either_way s c =
     let e = event_for s.limits s.terms s.past c in
     either_decided s (first_refusal (conditions s.limits s.terms s.past c))
     (must_wait s.limits s.terms s.past c) (has_room s.limits (e ∷ s.past)) e
+
+-- no call changes what the phaser was made with
+pub same_terms : (s : Story) (r : Reply) → (after s r).terms ≡ s.terms
+same_terms s (refused r) = refl
+same_terms s not_yet = refl
+same_terms s (done e) = refl

@@ -133,6 +133,7 @@ joined_level p q t ts s ready among legal' =
     other_level p q t u SigWait h (other_task t u h r.unknown k.live) k in
     record {
       longer = (e ∷ [], refl);
+      terms = refl;
       fresh = not_live t h r.unknown;
       there = new.live;
       did = λ k. deeds (new.told k) (fresh_not_sent s.limits s.terms h t ready.0 r.unknown k);
@@ -174,6 +175,7 @@ made_level t s ready first legal' =
     } in
     record {
       longer = (e ∷ [], refl);
+      terms = refl;
       fresh = ap (is_live t) first;
       there = new.live;
       did = λ k. deeds (new.told k) (filter (is_sent_by t) (first k));

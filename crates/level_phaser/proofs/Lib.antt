@@ -1,12 +1,19 @@
 mod Answered
+mod Coming
+mod Holding
 mod Joins
 mod Keeps
 mod Leaves
 pub mod LevelRounds
 pub mod LevelTasks
 mod Looks
+mod Puts
 pub mod Rounds
+mod Refused
+mod Rows
+mod Seats
 mod Sends
 mod Stages
+mod Tellings
 mod Totals
 mod Turned

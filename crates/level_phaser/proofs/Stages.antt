@@ -1,5 +1,5 @@
 -- Where a task stands, as its thread has it.
-use Rattle.std.proofs.Common.{◌≡◌, ◌≢◌, ℕ, List, [], ◌∷◌, get_or, Bool, true, false, true≢false, sym, ap, ◌∙◌, subst}
+use Rattle.std.proofs.Common.{◌<◌, ◌≤◌, ◌≡◌, ◌≢◌, ℕ, List, [], ◌∷◌, get_or, Bool, true, false, true≢false, sym, ap, ◌∙◌, subst}
 use Rattle.atomic_table.specs.Table.{Me, rest}
 use Rattle.phase_model.specs.declared.history.Event.{Event}
 use Rattle.level_phaser.specs.Changes.{IsSent}
@@ -7,16 +7,18 @@ use Rattle.level_phaser.specs.declared.view.SeatView.{SeatView}
 use Rattle.level_phaser.specs.declared.view.Role.TheVariants as role
 use Rattle.level_phaser.specs.declared.stage.Stage.{Stage}
 use Rattle.level_phaser.specs.declared.stage.Stage.TheVariants.{Stands}
-use Rattle.level_phaser.specs.Views.{seated}
+use Rattle.level_phaser.specs.Views.{pending_in, seated}
 use Rattle.level_phaser.specs.inner.Steps.{InStage, deeds_in}
 
 -- a task that stands has a seat that stands
 module _ {S : Type 0} where
-  pub stood : (stage : Stage) (task phase : ℕ) (me : Me S (SeatView S)) → stage ≡ Stands
-      → InStage stage task phase me
-      → (me.0.tasks ≡ seated task (deeds_in me.0.tasks) ∷ []) × (me.0.phase ≡ phase)
-      × (me.0.role ≡ role.Stands) × (me.1 ≡ [])
-  stood stage task phase me is so = subst (λ (z : Stage). InStage z task phase me) is so (λ e. cc)
+  pub stood : (stage : Stage) (task phase width : ℕ) (is_shown : Bool) (me : Me S (SeatView S)) → stage ≡ Stands
+      → InStage stage task phase width is_shown me
+      → (me.0.tasks ≡ seated task (deeds_in me.0.tasks) (pending_in me.0.tasks) ∷ []) × (me.0.phase ≡ phase)
+      × (me.0.role ≡ role.Stands) × (me.1 ≡ []) × (width ≤ me.0.width)
+      × (is_shown ≡ false → pending_in me.0.tasks ≡ []) × (is_shown ≡ true → task < 256)
+  stood stage task phase width is_shown me is so =
+      subst (λ (z : Stage). InStage z task phase width is_shown me) is so (λ e. cc)
 
 -- what a seat holds is what is lent of it
 pub lent : {S : Type 0} (held : List (ℕ × S)) (x y : S) → held ≡ (0, x) ∷ [] → held ≡ (0, y) ∷ rest held
@@ -29,8 +31,8 @@ pub others_number : {S : Type 0} (registered : ℕ → S → Bool) (x : S) (a b 
 others_number registered x a b isnt is e = true≢false (sym is ∙ ap (λ (k : ℕ). registered k x) (sym e) ∙ isnt)
 
 -- what was sent at one of two equal values was sent at the other
-pub sent_from : {S : Type 0} (events : S → List Event) (registered : ℕ → S → Bool) (count : S → ℕ)
+pub sent_from : {S : Type 0} (events : S → List Event) (registered : ℕ → S → Bool) (count : S → ℕ) (width : S → ℕ)
     (task : ℕ) {e : Event} (x z y : S)
-    → x ≡ z → IsSent events registered count task e z y → IsSent events registered count task e x y
-sent_from events registered count task {e = e} x z y same sent =
-    subst (λ (w : _). IsSent events registered count task e w y) (sym same) sent
+    → x ≡ z → IsSent events registered count width task e z y → IsSent events registered count width task e x y
+sent_from events registered count width task {e = e} x z y same sent =
+    subst (λ (w : _). IsSent events registered count width task e w y) (sym same) sent

@@ -7,6 +7,7 @@ use Rattle.phase_model.specs.declared.history.Event.{Event}
 use Rattle.phase_model.specs.declared.history.Event.TheVariants.{Claim, Pass}
 use Rattle.phase_model.specs.declared.call.Call.{Call}
 use Rattle.phase_model.specs.declared.call.Call.TheVariants.{Signal as signal, Pass as pass}
+use Rattle.phase_model.specs.declared.terms.Terms.{Terms}
 use Rattle.phase_model.specs.Phases.{signals}
 use Rattle.phase_model.specs.Rules.{Story, with_event, is_permitted}
 use Rattle.phase_model.specs.Replies.{Reply, refused, not_yet, done, event_for, reply, after}
@@ -16,7 +17,7 @@ use Rattle.level_phaser.specs.Rounds.{Round, round, with_call, with_calls, round
 use Rattle.level_phaser.specs.RoundLaws.{StandLevel, HasRoomFor}
 use Rattle.level_phaser.specs.LevelPhasers.{IsReady}
 use Rattle.level_phaser.specs.inner.Stories.{Turned}
-use Rattle.level_phaser.proofs.Answered.{either_way}
+use Rattle.level_phaser.proofs.Answered.{either_way, same_terms}
 use Rattle.level_phaser.proofs.Keeps.{tail_on, tail_same}
 use Rattle.level_phaser.proofs.LevelTasks.{level_by}
 use Rattle.level_phaser.proofs.LevelRounds.{level_round}
@@ -37,6 +38,16 @@ calls_longer p r (c ∷ cs) = tail_on r.story.past (with_call p r c).story.past
     (with_calls p (with_call p r c) cs).story.past
     (either_longer r.is_whole r.story.past _ r (after_longer r.story (reply r.story c))
     (tail_same r.story.past)) (calls_longer p (with_call p r c) cs)
+
+either_terms : (b : Bool) (t : Terms) (q r : Round) → q.story.terms ≡ t → r.story.terms ≡ t
+    → (if b then q else r).story.terms ≡ t
+either_terms true t q r a b = a
+either_terms false t q r a b = b
+
+calls_terms : (p : ℕ) (r : Round) (cs : List Call) → (with_calls p r cs).story.terms ≡ r.story.terms
+calls_terms p r [] = refl
+calls_terms p r (c ∷ cs) = calls_terms p (with_call p r c) cs
+    ∙ either_terms r.is_whole r.story.terms _ r (same_terms r.story (reply r.story c)) refl
 
 each_len : (f : ℕ → Call) (ts : List ℕ) → length (map f ts) ≡ length ts
 each_len f [] = refl
@@ -125,6 +136,7 @@ round_is p s s' ts ready room is legal' =
       record {
         longer = subst (λ (z : Story). IsTail s.past z.past) (sym is)
             (calls_longer p begun (round_calls [] ts));
+        terms = ap (λ (z : Story). z.terms) is ∙ calls_terms p begun (round_calls [] ts);
         ready = (legal', stand);
         each = λ u live.
             let here = ready.1.all u live in

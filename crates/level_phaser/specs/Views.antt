@@ -6,47 +6,62 @@ use Rattle.level_phaser.specs.declared.view.SeatedTask.{SeatedTask}
 use Rattle.level_phaser.specs.declared.view.Role.{Role}
 use Rattle.level_phaser.specs.declared.view.Role.TheVariants.{Stands, Gone}
 use Rattle.level_phaser.specs.declared.view.SeatView.{SeatView}
-use Rattle.level_phaser.specs.Deeds.{deeds, deeds_of, with_signal}
+use Rattle.level_phaser.specs.Deeds.{deeds, deeds_of, with_signal, with_sends}
 
--- this task did this itself
-abbrev pub seated : ℕ → Deeds → SeatedTask
-seated task done = record { task = task; deeds = done }
+-- this task did this itself, and its row shows this
+abbrev pub seated : ℕ → Deeds → List Event → SeatedTask
+seated task done pending = record { task = task; deeds = done; pending = pending }
 
--- one signal more of each
+-- what the row of each shows is told, and then one signal more
 abbrev pub signalled : List SeatedTask → List SeatedTask
 signalled [] = []
-signalled (c ∷ cs) = seated c.task (with_signal c.deeds) ∷ signalled cs
+signalled (c ∷ cs) = seated c.task (with_signal (with_sends c.pending c.deeds)) c.pending ∷ signalled cs
 
 -- each with what it did by this history
 abbrev pub known_by : List Event → List SeatedTask → List SeatedTask
 known_by h [] = []
-known_by h (c ∷ cs) = seated c.task (deeds_of c.task h) ∷ known_by h cs
+known_by h (c ∷ cs) = seated c.task (deeds_of c.task h) c.pending ∷ known_by h cs
+
+-- the row of each shows this now
+abbrev pub showing : List Event → List SeatedTask → List SeatedTask
+showing es [] = []
+showing es (c ∷ cs) = seated c.task c.deeds es ∷ showing es cs
+
+-- what the row of the first of these tasks shows
+abbrev pub pending_in : List SeatedTask → List Event
+pending_in [] = []
+pending_in (c ∷ cs) = c.pending
 
 module _ {S : Type 0} where
-  abbrev pub view_of : List SeatedTask → ℕ → Role S → List Event → ℕ → SeatView S
-  view_of tasks phase role seen heard = record {
+  abbrev pub view_of : List SeatedTask → ℕ → Role S → List Event → ℕ → ℕ → SeatView S
+  view_of tasks phase role seen heard width = record {
     tasks = tasks;
     phase = phase;
     role = role;
     seen = seen;
     heard = heard;
+    width = width;
   }
 
   -- the first task, which hasn't come
-  abbrev pub first_view : ℕ → SeatView S
-  first_view task = view_of (seated task (deeds 0 []) ∷ []) 0 Stands [] 0
+  abbrev pub first_view : ℕ → ℕ → SeatView S
+  first_view task width = view_of (seated task (deeds 0 []) [] ∷ []) 0 Stands [] 0 width
 
   -- the same seat in another role
   abbrev pub with_role : SeatView S → Role S → SeatView S
-  with_role v role = view_of v.tasks v.phase role v.seen v.heard
+  with_role v role = view_of v.tasks v.phase role v.seen v.heard v.width
 
   -- it stands, and has seen all of this history
   abbrev pub with_seen : SeatView S → List Event → SeatView S
-  with_seen v seen = view_of (known_by seen v.tasks) v.phase Stands seen v.heard
+  with_seen v seen = view_of (known_by seen v.tasks) v.phase Stands seen v.heard v.width
+
+  -- the row of its task shows this now
+  abbrev pub with_pending : SeatView S → List Event → SeatView S
+  with_pending v es = view_of (showing es v.tasks) v.phase v.role v.seen v.heard v.width
 
   -- its task has left in this history
   abbrev pub without_tasks : SeatView S → Role S → List Event → SeatView S
-  without_tasks v role seen = view_of [] v.phase role seen v.heard
+  without_tasks v role seen = view_of [] v.phase role seen v.heard v.width
 
   -- a seat of no task is done
   abbrev pub role_after : List SeatedTask → Role S
@@ -55,12 +70,12 @@ module _ {S : Type 0} where
 
   -- the same tasks in the next phase, each with one signal more, and this history seen
   abbrev pub gone_on : SeatView S → List Event → SeatView S
-  gone_on v seen = view_of (signalled v.tasks) (v.phase + 1) (role_after v.tasks) seen v.heard
+  gone_on v seen = view_of (signalled v.tasks) (v.phase + 1) (role_after v.tasks) seen v.heard v.width
 
   -- what a task tells others: it has come so far
   abbrev pub note_of : SeatView S → SeatView S
-  note_of v = view_of [] v.phase Gone v.seen 0
+  note_of v = view_of [] v.phase Gone v.seen 0 v.width
 
   -- it has read the note
   abbrev pub told : SeatView S → SeatView S → SeatView S
-  told v note = view_of v.tasks v.phase v.role v.seen note.phase
+  told v note = view_of v.tasks v.phase v.role v.seen note.phase v.width

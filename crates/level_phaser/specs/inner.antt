@@ -3,3 +3,4 @@ pub mod Board
 pub mod Plays
 pub mod Steps
 pub mod Stories
+pub mod Tellings

@@ -117,6 +117,10 @@ impl LevelState for LevelPhaser {
 
     ghost count = { λ d. vec_len d.tasks };
 
+    ghost width = { λ d. length d.phaser.story.terms.ops };
+
+    ghost tasks = { λ d. d.tasks.items };
+
     ghost newest = { λ d. d.phaser.next - 1 };
 
     ghost replies = { λ d call. reply d.phaser.story call };
@@ -127,6 +131,20 @@ impl LevelState for LevelPhaser {
 
     fn count(&self) -> u64 {
         self.tasks.len() as u64
+    }
+
+    fn width(&self) -> u64 {
+        self.phaser.history().ops().len() as u64
+    }
+
+    fn task_at(&self, place: u64, phase: u64) -> Option<u64> {
+        let _ = phase;
+        // So the accumulators are few.
+        let _ = self.width();
+        let Some(task) = self.tasks.get(place as usize) else {
+            return None;
+        };
+        Some(*task)
     }
 
     fn make_round(&mut self, phase: u64) -> bool {

@@ -11,19 +11,20 @@ pub struct Deeds {
     pub sends: LinkedList<Event>,
 }
 
-/// A task that a seat stands for.
+/// A task that a seat stands for. Its row shows what it sends in this phase.
 pub struct SeatedTask {
     pub task: u64,
     pub deeds: Deeds,
+    pub pending: LinkedList<Event>,
 }
 
-/// Where a seat's tasks stand: they haven't come in their phase; they have; they came last, and
-/// have what is shared; they haven't come, and hold what is shared out of turn; there is none any
+/// Where a seat's tasks stand: they haven't come in their phase; they have; they came last, have
+/// what is shared, and find these words; they haven't come, and hold what is shared out of turn; there is none any
 /// more.
 pub enum Role<S> {
     Stands,
     Came,
-    Last(S),
+    Last(S, LinkedList<u64>),
     Holder(S),
     Gone,
 }
@@ -37,22 +38,31 @@ pub struct SeatView<S> {
     pub seen: LinkedList<Event>,
     /// A phase that was reached, as others told it.
     pub heard: u64,
+    /// So many accumulators there are, or more.
+    pub width: u64,
+}
+
+/// What a table begins with: its first task, and how many accumulators there are.
+#[derive(Clone, Copy)]
+pub struct Opening {
+    pub task: u64,
+    pub width: u64,
 }
 
 /// The rule.
 pub struct Level;
 
-impl<S: LevelState> TableRule<S, SeatView<S>, u64> for Level {
+impl<S: LevelState> TableRule<S, SeatView<S>, Opening> for Level {
     ghost use Rattle.level_phaser.specs.Views.{first_view};
     ghost use Rattle.level_phaser.specs.inner.Board.{IsLevel};
 
-    ghost holds = { λ _. IsLevel S.events S.registered S.count S.ready };
+    ghost holds = { λ _. IsLevel S.events S.registered S.count S.width S.ready };
 
-    ghost first = { first_view };
+    ghost first = { λ o. first_view o.task o.width };
 }
 
 /// The table that the tasks share.
-pub type LevelTable<S> = Table<S, SeatView<S>, u64, Level, Global>;
+pub type LevelTable<S> = Table<S, SeatView<S>, Opening, Level, Global>;
 
 /// A token of no bytes, with which a thread makes its steps on the table.
 pub type LevelSeat<S> = Seat<S, SeatView<S>>;

@@ -189,11 +189,93 @@ const ROWS: [(Call, Answer); 33] = [
     (Call::Join(0), Answer::Busy),
 ];
 
+/// A value that is kept, one that is told at once, and rows that show nothing any more.
+const KEPT: [(Call, Answer); 35] = [
+    (Call::Join(0), Answer::Joined(1)),
+    (Call::Join(0), Answer::Joined(2)),
+    // Phase 0: the second value of task 0 is told before the first one.
+    (Call::Send(0, 0, 3), DONE),
+    (Call::Send(0, 0, 4), DONE),
+    (Call::Send(1, 0, -10), DONE),
+    (Call::Send(2, 0, 100), DONE),
+    (Call::Come(2), Answer::Is(false)),
+    (Call::Come(0), Answer::Is(false)),
+    (Call::Come(1), Answer::Is(true)),
+    (Call::Look(0), Answer::Is(true)),
+    (Call::Look(2), Answer::Is(true)),
+    (Call::LookAt(2), Answer::Seen(Ok(Look::Value(97)))),
+    // Phase 1: task 1 alone sends.
+    (Call::Come(0), Answer::Is(false)),
+    (Call::Send(1, 0, 8), DONE),
+    (Call::Come(1), Answer::Is(false)),
+    (Call::Come(2), Answer::Is(true)),
+    (Call::Look(0), Answer::Is(true)),
+    (Call::Look(1), Answer::Is(true)),
+    (Call::LookAt(0), Answer::Seen(Ok(Look::Value(8)))),
+    // Phase 2: nobody sends.
+    (Call::Come(1), Answer::Is(false)),
+    (Call::Come(2), Answer::Is(false)),
+    (Call::Come(0), Answer::Is(true)),
+    (Call::Look(1), Answer::Is(true)),
+    (Call::Look(2), Answer::Is(true)),
+    (Call::LookAt(1), Answer::Seen(Ok(Look::Value(0)))),
+    // Phase 3: task 2 sends what it keeps before it leaves, and ends the round.
+    (Call::Send(1, 0, i32::MIN), DONE),
+    (Call::Come(1), Answer::Is(false)),
+    (Call::Send(0, 0, i32::MAX), DONE),
+    (Call::Come(0), Answer::Is(false)),
+    (Call::Send(2, 0, 5), DONE),
+    (Call::Leave(2), Answer::Is(false)),
+    (Call::Leave(2), Answer::Is(true)),
+    (Call::Look(0), Answer::Is(true)),
+    (Call::LookAt(0), Answer::Seen(Ok(Look::Value(4)))),
+    (Call::Look(1), Answer::Is(true)),
+];
+
+/// Each call in order, on the first task of a phaser.
+fn compare(rt: &impl Abort, alloc: Global, rows: &[(Call, Answer)]) -> Result<(), Fail> {
+    let mut tasks = Vec::new(alloc);
+    tasks.push(first(alloc)?)?;
+    for (call, answer) in rows {
+        equal_at(rt, *call, answer_to(&mut tasks, *call), *answer);
+    }
+    Ok(())
+}
+
 #[test]
 fn each_call_of_a_task(rt: HostRuntime) -> Result<(), Fail> {
+    compare(&rt, rt.alloc(), &ROWS)
+}
+
+#[test]
+fn values_that_are_kept(rt: HostRuntime) -> Result<(), Fail> {
+    compare(&rt, rt.alloc(), &KEPT)
+}
+
+/// So many tasks join and leave: those after them have no row.
+const MANY: u64 = 300;
+
+#[test]
+fn tasks_without_a_row(rt: HostRuntime) -> Result<(), Fail> {
     let mut tasks = Vec::new(rt.alloc());
     tasks.push(first(rt.alloc())?)?;
-    for (call, answer) in &ROWS {
+    for number in 1..MANY {
+        equal(&rt, joined(&mut tasks, 0), Answer::Joined(number));
+        equal(&rt, answer_to(&mut tasks, Call::Leave(1)), Answer::Is(true));
+        tasks.pop();
+    }
+    let rows = [
+        (Call::Join(0), Answer::Joined(MANY)),
+        (Call::Send(1, 0, 7), DONE),
+        (Call::Send(0, 0, 1), DONE),
+        (Call::Come(1), Answer::Is(false)),
+        (Call::Come(0), Answer::Is(true)),
+        (Call::LookAt(0), sum(8)),
+        (Call::Look(1), Answer::Is(true)),
+        (Call::Leave(1), Answer::Is(true)),
+        (Call::Leave(0), Answer::Is(true)),
+    ];
+    for (call, answer) in &rows {
         equal_at(&rt, *call, answer_to(&mut tasks, *call), *answer);
     }
     Ok(())

@@ -41,12 +41,12 @@ sent_so accumulator value m n a r may same stage phase is sent =
 -- a task that stands has looked
 pub seen_so : (accumulator : ℕ) (v w : ℤ) (m n : LevelMember) (a : ExportAnswer) (r : Result (Look ℤ) Refusal)
     → stands m.stage ≡ true → (n.seat.table_id ≡ m.seat.table_id) × (n.task ≡ m.task) × (n.phase ≡ m.phase)
-    → (n.stage ≡ Stands) × (view n ≡ view m) → a ≡ answer_seen r → w ≡ value_seen v r → SeenSo accumulator m r
+    → (n.stage ≡ Stands) × (view n ≡ view m) × (n.kept ≡ m.kept) → a ≡ answer_seen r → w ≡ value_seen v r → SeenSo accumulator m r
     → HasSeen (stands m.stage) accumulator v w m n a
 seen_so accumulator v w m n a r may same kept is value seen =
     let stays : n.stage ≡ m.stage = kept.0 ∙ sym (is_standing m.stage may) in
     subst (λ (b : Bool). HasSeen b accumulator v w m n a) (sym may)
-    (((same.1, same.0), stays, same.2, kept.1), inr (r, is, value, seen))
+    (((same.1, same.0), stays, same.2, kept.1, kept.2), inr (r, is, value, seen))
 
 -- a handle that holds none
 pub closed_at : (How : LevelMember → LevelMember → ExportAnswer → Type 0) (old new : Option LevelTask) → old ≡ None
@@ -89,11 +89,11 @@ not_made None new (Ok s) a none kept is = inr (is, kept)
 abbrev pub Stays : LevelMember → LevelMember → Type 0
 Stays m n =
     ((n.seat.table_id ≡ m.seat.table_id) × (n.task ≡ m.task))
-    × ((view n ≡ view m) × (n.stage ≡ Stands) × (n.phase ≡ m.phase))
+    × ((view n ≡ view m) × (n.stage ≡ Stands) × (n.phase ≡ m.phase) × (n.kept ≡ m.kept))
 
 -- so nothing has changed for it
 kept_of : (m n : LevelMember) → stands m.stage ≡ true → Stays m n → IsKept m n
-kept_of m n may s = ((s.0.1, s.0.0), s.1.1 ∙ sym (is_standing m.stage may), s.1.2, s.1.0)
+kept_of m n may s = ((s.0.1, s.0.0), s.1.1 ∙ sym (is_standing m.stage may), s.1.2, s.1.0, s.1.3)
 
 -- a task has joined
 pub has_joined : (m n c : LevelMember) (old new : Option LevelMember) → is_some old ≡ false → new ≡ Some c

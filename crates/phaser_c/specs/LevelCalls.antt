@@ -19,9 +19,9 @@ use Rattle.level_phaser.specs.declared.stage.Stage.TheVariants.{Stands, Waits, G
 use Rattle.level_phaser.specs.declared.view.SeatView.{SeatView}
 use Rattle.level_phaser.specs.declared.view.Role.TheVariants.{Came, Stands as StandsIn}
 use Rattle.level_phaser.specs.LevelPhasers.{IsReady, IsFull}
-use Rattle.level_phaser.specs.Deeds.{deeds}
-use Rattle.level_phaser.specs.Views.{seated, view_of, first_view, with_role}
-use Rattle.level_phaser.specs.Seen.{GoneOn, HasSent as SentInto, HasLeft as LeftBy, HasNoRoom, IsReplied}
+use Rattle.level_phaser.specs.Deeds.{deeds, kept_in}
+use Rattle.level_phaser.specs.Views.{seated, view_of, first_view, with_role, with_pending, pending_in}
+use Rattle.level_phaser.specs.Seen.{GoneOn, HasKept as KeptSo, HasToldKept, HasSent as SentInto, HasLeft as LeftBy, HasNoRoom, IsReplied}
 use Rattle.phaser_c.specs.Waiting.{answer_done, answer_seen, value_seen}
 use Rattle.phaser_c.specs.declared.answer.ExportAnswer.{ExportAnswer}
 use Rattle.phaser_c.specs.declared.answer.ExportAnswer.TheVariants.{Done, NotYet, Closed, Open, Refused}
@@ -61,7 +61,7 @@ IsSame m n = (n.task ≡ m.task) × (n.seat.table_id ≡ m.seat.table_id)
 
 -- nothing has changed for the task
 abbrev pub IsKept : LevelMember → LevelMember → Type 0
-IsKept m n = IsSame m n × (n.stage ≡ m.stage) × (n.phase ≡ m.phase) × (view n ≡ view m)
+IsKept m n = IsSame m n × (n.stage ≡ m.stage) × (n.phase ≡ m.phase) × (view n ≡ view m) × (n.kept ≡ m.kept)
 
 -- the task stands
 abbrev pub stands : Stage → Bool
@@ -95,16 +95,22 @@ abbrev pub IfMay : Bool → (LevelMember → LevelMember → ExportAnswer → Ty
 IfMay true How m n a = IsSame m n × How m n a
 IfMay false How m n a = (a ≡ Refused NotNow) × (n ≡ m)
 
--- the task stands in the next phase, and has seen a history in which all tasks stood level in it
-abbrev pub HasGoneOn : LevelMember → LevelMember → Type 0
-HasGoneOn m n = (n.stage ≡ Stands) × GoneOn events registered ready (view m) (view n)
+-- the task stands in the phase after this one of its seat, and has seen a history in which all tasks stood level in it
+abbrev pub HasGoneOn : SeatView LevelPhaser → LevelMember → Type 0
+HasGoneOn v n = (n.stage ≡ Stands) × GoneOn events registered ready v (view n)
 
--- how a task comes: it was the last and has gone on; or it waits; or it was the last, and there is no room for the round
+-- what its seat knows once its row shows the value that it keeps
+abbrev pub shown : LevelMember → SeatView LevelPhaser
+shown m = with_pending (view m) (kept_in m.task m.kept)
+
+-- how a task comes, which keeps no value then: it was the last and has gone on; or it waits; or it was the last, and there
+-- is no room for the round
 abbrev pub CameSo : LevelMember → LevelMember → ExportAnswer → Type 0
 CameSo m n a =
-    ((a ≡ Done) × HasGoneOn m n)
-    ⊎ (((a ≡ NotYet) × (n.stage ≡ Waits) × (view n ≡ with_role (view m) Came))
-    ⊎ ((a ≡ Refused HistoryFull) × (n.stage ≡ Stuck) × HasNoRoom events full (view m)))
+    (n.kept ≡ None)
+    × (((a ≡ Done) × HasGoneOn (shown m) n)
+    ⊎ (((a ≡ NotYet) × (n.stage ≡ Waits) × (view n ≡ with_role (shown m) Came))
+    ⊎ ((a ≡ Refused HistoryFull) × (n.stage ≡ Stuck) × HasNoRoom events full (view m))))
 
 -- the same; or it may not come
 abbrev pub HasCome : LevelMember → LevelMember → ExportAnswer → Type 0
@@ -112,7 +118,8 @@ HasCome m n a = IfMay (may_come m) CameSo m n a
 
 -- how a task looks: it has gone on; or it waits, as before
 abbrev pub LookedSo : LevelMember → LevelMember → ExportAnswer → Type 0
-LookedSo m n a = ((a ≡ Done) × HasGoneOn m n) ⊎ ((a ≡ NotYet) × (n.stage ≡ Waits) × (view n ≡ view m))
+LookedSo m n a =
+    (n.kept ≡ m.kept) × (((a ≡ Done) × HasGoneOn (view m) n) ⊎ ((a ≡ NotYet) × (n.stage ≡ Waits) × (view n ≡ view m)))
 
 -- the same; or it may not look
 abbrev pub HasLooked : LevelMember → LevelMember → ExportAnswer → Type 0
@@ -122,32 +129,39 @@ HasLooked m n a = IfMay (may_look m) LookedSo m n a
 abbrev pub IsGone : LevelMember → LevelMember → Type 0
 IsGone m n = LeftBy events registered ready m.task (view m) (view n)
 
--- how a task leaves: it has left; or it is as before; or it has left, all others had come, and there is no room for their
--- round
+-- it is as before, or the value that it kept has been sent
+abbrev pub IsKeptOrTold : LevelMember → LevelMember → Type 0
+IsKeptOrTold m n =
+    ((view n ≡ view m) × (n.kept ≡ m.kept))
+    ⊎ HasToldKept events registered ready m.task m.kept n.kept (view m) (view n)
+
+-- how a task leaves: it has left, and kept no value; or it stands, and is asked again; or it has left, all others had come,
+-- and there is no room for their round
 abbrev pub LeftSo : LevelMember → LevelMember → ExportAnswer → Type 0
 LeftSo m n a =
-    ((a ≡ Done) × (n.stage ≡ Gone) × IsGone m n)
-    ⊎ (((a ≡ NotYet) × (n.stage ≡ Stands) × (view n ≡ view m))
-    ⊎ ((a ≡ Refused HistoryFull) × (n.stage ≡ Stuck) × IsGone m n × HasNoRoom events full (view m)))
+    ((a ≡ Done) × (m.kept ≡ None) × (n.stage ≡ Gone) × IsGone m n)
+    ⊎ (((a ≡ NotYet) × (n.stage ≡ Stands) × IsKeptOrTold m n)
+    ⊎ ((a ≡ Refused HistoryFull) × (m.kept ≡ None) × (n.stage ≡ Stuck) × IsGone m n × HasNoRoom events full (view m)))
 
 -- the same; or it may not leave
 abbrev pub HasLeft : LevelMember → LevelMember → ExportAnswer → Type 0
 HasLeft m n a = IfMay (may_come m) LeftSo m n a
 
--- what a send does, if nobody else has the phaser: it is the newest event of what the task has seen; or the phaser
--- refuses it, and all is as before
+-- what a send does: the task keeps the value until it comes; or it is the newest event of what the task has seen; or the
+-- phaser refuses it, and all is as before
 abbrev pub SentSo : ℕ → ℤ → LevelMember → LevelMember → Result (Unit {0}) Refusal → Type 0
 SentSo accumulator value m n r =
     MatchResult r
-    (λ _. SentInto events registered ready (Sent m.task accumulator value) (view m) (view n))
-    (λ why. (view n ≡ view m)
+    (λ _. KeptSo m.task accumulator value m.kept n.kept (view m) (view n)
+    ⊎ ((n.kept ≡ m.kept) × SentInto events registered ready (Sent m.task accumulator value) (view m) (view n)))
+    (λ why. (view n ≡ view m) × (n.kept ≡ m.kept)
     × IsReplied events replies (λ reply. done_result reply ≡ Err why) (send m.task accumulator value) (view m))
 
--- how a task sends a value: if others have the phaser, all is as before; else the phaser answers
+-- how a task sends a value: if it can't keep it and others have the phaser, all is as before
 abbrev pub AskedToSend : ℕ → ℤ → LevelMember → LevelMember → ExportAnswer → Type 0
 AskedToSend accumulator value m n a =
     (n.stage ≡ Stands) × (n.phase ≡ m.phase)
-    × (((a ≡ NotYet) × (view n ≡ view m))
+    × (((a ≡ NotYet) × (view n ≡ view m) × (n.kept ≡ m.kept))
     ⊎ ((r : Result (Unit {0}) Refusal) × (a ≡ answer_done r) × SentSo accumulator value m n r))
 
 -- the same; or it doesn't stand
@@ -186,7 +200,7 @@ IsSeenBy accumulator (Some m) new v w a =
 
 -- the first task of a phaser
 abbrev pub IsFirst : LevelMember → Type 0
-IsFirst m = (view m ≡ first_view m.task) × (m.stage ≡ Stands)
+IsFirst m = (view m ≡ first_view m.task m.width) × (m.stage ≡ Stands) × (m.kept ≡ None)
 
 -- the operators and the bound are some
 abbrev pub IsGiven : Result Story ExportAnswer → Type 0
@@ -205,8 +219,9 @@ IsFirstFor None new (Ok s) a =
 abbrev pub IsChild : LevelMember → LevelMember → Type 0
 IsChild m c =
     let v = view m in
-    (view c ≡ view_of (seated c.task (deeds m.phase []) ∷ []) m.phase StandsIn v.seen v.heard)
-    × (c.task ≢ m.task) × (c.stage ≡ Stands) × (c.seat.table_id ≡ m.seat.table_id)
+    (view c ≡ view_of (seated c.task (deeds m.phase []) (pending_in (view c).tasks) ∷ []) m.phase StandsIn v.seen v.heard
+    v.width)
+    × (c.kept ≡ None) × (c.task ≢ m.task) × (c.stage ≡ Stands) × (c.seat.table_id ≡ m.seat.table_id)
 
 -- how a task joins by m, for which nothing changes: if that doesn't stand, that is answered; if others have the phaser, or
 -- there is no room, or memory is refused, there is no new task

@@ -12,7 +12,7 @@ use phase_modes::Refusal;
 #[derive(Drop)]
 pub(crate) struct LevelTask {
     pub(crate) member: Option<Member<LevelPhaser>>,
-    apart: [u64; 27],
+    apart: [u64; 23],
 }
 
 /// Whether the task stands.
@@ -114,7 +114,7 @@ impl LevelTask {
     {
         LevelTask {
             member: None,
-            apart: [0; 27],
+            apart: [0; 23],
         }
     }
 

@@ -1,13 +1,13 @@
 -- What each step on the table tells the thread that makes it.
-use Rattle.std.specs.Prelude.{◌≡◌, ◌≢◌, ℕ, ◌+◌, ◌<◌, ◌≤◌, Bool, List, [], ◌∷◌}
+use Rattle.std.specs.Prelude.{◌*◌, length, slice_index, ◌≡◌, ◌≢◌, ℕ, ◌+◌, ◌<◌, ◌≤◌, Bool, List, [], ◌∷◌}
 use Rattle.atomic_table.specs.Table.{Me, Step}
 use Rattle.told_history.specs.Tails.{IsTail}
 use Rattle.phase_model.specs.declared.history.Event.{Event}
 use Rattle.level_phaser.specs.declared.view.SeatView.{SeatView}
 use Rattle.level_phaser.specs.declared.view.Role.TheVariants.{Stands, Came, Last, Holder, Gone}
 use Rattle.level_phaser.specs.Deeds.{deeds}
-use Rattle.level_phaser.specs.Views.{seated, signalled, view_of, with_role, with_seen, without_tasks, gone_on}
-use Rattle.level_phaser.specs.inner.Board.{busy}
+use Rattle.level_phaser.specs.Views.{seated, signalled, view_of, with_role, with_pending, with_seen, without_tasks, gone_on}
+use Rattle.level_phaser.specs.inner.Board.{busy, sent_in, IsSound}
 use Rattle.level_phaser.specs.Seen.{AreSeated, GoneOn}
 
 -- a seat's view, and what it holds
@@ -27,21 +27,23 @@ module _ {S : Type 0} (events : S → List Event) (registered : ℕ → S → Bo
 -- the seat came last in this phase, and has what is shared
 abbrev pub IsLast : {S : Type 0} → (S → List Event) → (ℕ → S → Type 0) → ℕ → M S → Type 0
 IsLast {S} events ready phase m =
-    (x : S)
-    × (m.0.role ≡ Last x)
-    × (m.1 ≡ (0, x) ∷ [])
+    (took : S × List ℕ)
+    × (m.0.role ≡ Last took.0 took.1)
+    × (m.1 ≡ (0, took.0) ∷ [])
     × (m.0.phase ≡ phase)
-    × ready phase x
-    × IsTail m.0.seen (events x)
+    × ready phase took.0
+    × IsTail m.0.seen (events took.0)
+    × (length took.1 ≡ 2080)
 
-module _ {S : Type 0} (events : S → List Event) (registered : ℕ → S → Bool) (newest : S → ℕ)
+module _ {S : Type 0} (events : S → List Event) (registered : ℕ → S → Bool) (width : S → ℕ) (newest : S → ℕ)
     (ready : ℕ → S → Type 0) where
   -- who comes last has what is shared
   abbrev pub came : Step S → M S → ℕ → M S → Type 0
   came st m n m' =
       (n ≡ 1
-      → (x : S) × (m' ≡ (with_role m.0 (Last x), (0, x) ∷ [])) × ready m.0.phase x
-      × IsTail m.0.seen (events x))
+      → (took : S × List ℕ) × (m' ≡ (with_role m.0 (Last took.0 took.1), (0, took.0) ∷ []))
+      × ready m.0.phase took.0 × IsTail m.0.seen (events took.0)
+      × (length took.1 ≡ 2080))
       × (n ≢ 1 → m' ≡ (with_role m.0 Came, []))
 
   -- the round of the seat's phase is over if the word has risen above that
@@ -71,23 +73,35 @@ module _ {S : Type 0} (events : S → List Event) (registered : ℕ → S → Bo
   abbrev pub joined : Step S → M S → ℕ → M S → Type 0
   joined st m n m' =
       (y : S) → m.1 ≡ (0, y) ∷ []
-      → m' ≡ (
-        view_of (seated (newest y) (deeds m.0.phase []) ∷ m.0.tasks) m.0.phase Stands m.0.seen
-            m.0.heard,
+      → (es : List Event)
+      × (m' ≡ (
+        view_of (seated (newest y) (deeds m.0.phase []) es ∷ m.0.tasks) m.0.phase Stands m.0.seen
+            m.0.heard m.0.width,
         [],
-      )
+      ))
+      × (256 ≤ newest y → es ≡ [])
 
   -- the holder's task has left: if nobody was missing but that one, the holder is the last; else it has given back
   -- what is shared
   abbrev pub left : Step S → M S → ℕ → M S → Type 0
   left st m n m' =
       (y : S) → m.1 ≡ (0, y) ∷ []
-      → (n ≡ busy + 1 → m' ≡ (without_tasks m.0 (Last y) (events y), (0, y) ∷ []))
+      → (n ≡ busy + 1 → (ws : List ℕ) × (m' ≡ (without_tasks m.0 (Last y ws) (events y), (0, y) ∷ [])) × (length ws ≡ 2080))
       × (n ≢ busy + 1 → m' ≡ (without_tasks m.0 Gone (events y), []))
 
   -- no phase that was heard of lies beyond that of a task which hasn't come
   abbrev pub heeded : Step S → M S → ℕ → M S → Type 0
   heeded st m n m' = (m' ≡ m) × (m.0.role ≡ Stands → m.0.heard ≤ m.0.phase)
+
+  -- the row of the seat's task shows what the word stands for
+  abbrev pub showed : Step S → M S → ℕ → M S → Type 0
+  showed st m n m' = (task : ℕ) → st.word ≡ 32 + 8 * task → m' ≡ (with_pending m.0 (sent_in task st.first), m.1)
+
+  -- the last has found this word, and if it stands for a value that can be told
+  abbrev pub found : Step S → M S → ℕ → M S → Type 0
+  found st m n m' =
+      (m' ≡ m)
+      × ((x : S) (ws : List ℕ) → m.0.role ≡ Last x ws → (n ≡ slice_index ws st.word) × IsSound (width x) n)
 
   -- nothing changes but the word
   abbrev pub raised : Step S → M S → ℕ → M S → Type 0

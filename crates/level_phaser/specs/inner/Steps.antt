@@ -1,7 +1,8 @@
 -- What a task's thread has.
-use Rattle.std.specs.Prelude.{◌≡◌, ◌≢◌, ℕ, List, [], ◌∷◌}
+use Rattle.std.specs.Prelude.{◌≡◌, ◌≢◌, ℕ, ◌<◌, ◌≤◌, Bool, true, false, List, [], ◌∷◌}
 use Rattle.atomic_table.specs.Table.{Me}
 use Rattle.atomic_table.specs.Seated.{TableId}
+use Rattle.phase_model.specs.declared.history.Event.{Event}
 use Rattle.level_phaser.specs.declared.view.Deeds.{Deeds}
 use Rattle.level_phaser.specs.declared.view.SeatedTask.{SeatedTask}
 use Rattle.level_phaser.specs.declared.view.Role.{Role}
@@ -10,12 +11,12 @@ use Rattle.level_phaser.specs.declared.view.SeatView.{SeatView}
 use Rattle.level_phaser.specs.declared.stage.Stage.{Stage}
 use Rattle.level_phaser.specs.declared.stage.Stage.TheVariants.{Stands, Waits, Gone, Stuck}
 use Rattle.level_phaser.specs.Deeds.{deeds}
-use Rattle.level_phaser.specs.Views.{seated}
+use Rattle.level_phaser.specs.Views.{seated, pending_in}
 use Rattle.level_phaser.specs.inner.Board.{with_tasks}
 
--- the table has room for two words in lines of memory of their own, and one value
+-- the table has room for two words in lines of memory of their own, the rows, and one value
 abbrev pub IsSized : TableId → Type 0
-IsSized id = (id.words ≡ 32) × (id.slots ≡ 1)
+IsSized id = (id.words ≡ 2080) × (id.slots ≡ 1)
 
 -- the first, alone
 abbrev pub head_of : List SeatedTask → List SeatedTask
@@ -33,11 +34,11 @@ deeds_in [] = deeds 0 []
 deeds_in (c ∷ cs) = c.deeds
 
 -- a task that is done has no seat any more
-abbrev pub tasks_of : Stage → ℕ → Deeds → List SeatedTask
-tasks_of Stands task done = seated task done ∷ []
-tasks_of Waits task done = seated task done ∷ []
-tasks_of Gone task done = []
-tasks_of Stuck task done = []
+abbrev pub tasks_of : Stage → ℕ → Deeds → List Event → List SeatedTask
+tasks_of Stands task done es = seated task done es ∷ []
+tasks_of Waits task done es = seated task done es ∷ []
+tasks_of Gone task done es = []
+tasks_of Stuck task done es = []
 
 module _ {S : Type 0} where
   -- the view of a seat for the first of its tasks
@@ -55,11 +56,14 @@ module _ {S : Type 0} where
   role_of Gone = role.Gone
   role_of Stuck = role.Gone
 
-  -- the seat is of this task and in this phase, and holds nothing; nothing is known of a task that is stuck
-  abbrev pub InStage : Stage → ℕ → ℕ → Me S (SeatView S) → Type 0
-  InStage stage task phase me =
+  -- the seat is of this task and in this phase, and holds nothing; the task's row shows something only if it is said; nothing is known of a task that is stuck
+  abbrev pub InStage : Stage → ℕ → ℕ → ℕ → Bool → Me S (SeatView S) → Type 0
+  InStage stage task phase width is_shown me =
       stage ≢ Stuck
-      → (me.0.tasks ≡ tasks_of stage task (deeds_in me.0.tasks))
+      → (me.0.tasks ≡ tasks_of stage task (deeds_in me.0.tasks) (pending_in me.0.tasks))
       × (me.0.phase ≡ phase)
       × (me.0.role ≡ role_of stage)
       × (me.1 ≡ [])
+      × (width ≤ me.0.width)
+      × (is_shown ≡ false → pending_in me.0.tasks ≡ [])
+      × (is_shown ≡ true → task < 256)

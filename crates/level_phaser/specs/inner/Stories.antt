@@ -10,6 +10,7 @@ use Rattle.level_phaser.specs.LevelPhasers.{IsReady}
 -- t is registered now and wasn't before, the others have done no more, and all stand level in phase p
 pub record Joined (p t : ℕ) (ts : List ℕ) (s s' : Story) : Type 0 where
   pub longer : IsTail s.past s'.past
+  pub terms : s'.terms ≡ s.terms
   pub fresh : is_live t s.past ≡ false
   pub there : is_live t s'.past ≡ true
   pub did : deeds_of t s'.past ≡ deeds p []
@@ -20,6 +21,7 @@ pub record Joined (p t : ℕ) (ts : List ℕ) (s s' : Story) : Type 0 where
 -- each task has signalled once more, and all stand level in the phase after p
 pub record Turned (p : ℕ) (ts : List ℕ) (s s' : Story) : Type 0 where
   pub longer : IsTail s.past s'.past
+  pub terms : s'.terms ≡ s.terms
   pub ready : IsReady (p + 1) ts s'
   pub each : (u : ℕ) → is_live u s.past ≡ true
       → (is_live u s'.past ≡ true) × (deeds_of u s'.past ≡ with_signal (deeds_of u s.past))

@@ -1,5 +1,5 @@
 use Rattle.std.proofs.Common.{◌<◌, ℕ, refl, sym, subst, arith}
-use Rattle.level_phaser.proofs.Keeps.{claims}
+use Rattle.level_phaser.proofs.Holding.{claims}
 use Rattle.level_phaser.proofs.steps.claim.Goals as goal
 
 pub compare_exchange-requires : goal.compare_exchange-requires
@@ -9,6 +9,6 @@ compare_exchange-requires g c =
     let less = c.if-missing-ge-BUSY.false in (
       c.requires.table.0,
       subst (λ (n : ℕ). 0 < n) (sym c.requires.table.1.0) (omega arith),
-      claims L.events L.registered L.count L.newest L.ready _ _ _ _ _ (omega arith) less refl
+      claims L.events L.registered L.count L.width L.newest L.ready _ _ _ _ _ (omega arith) less refl
           c.requires.stands.0 c.requires.stands.1,
     )

@@ -3,7 +3,7 @@ use Rattle.atomic_table.specs.Table.{rest}
 use Rattle.phase_model.specs.Answers.{look_result}
 use Rattle.phase_model.specs.declared.call.Call.TheVariants.{Look as look}
 use Rattle.level_phaser.specs.Changes.{IsKept}
-use Rattle.level_phaser.proofs.Keeps.{releases}
+use Rattle.level_phaser.proofs.Holding.{releases}
 use Rattle.level_phaser.proofs.Stages.{stood, lent}
 use Rattle.level_phaser.proofs.member.Member.look_at.Goals as goal
 
@@ -11,7 +11,7 @@ pub fetch_sub-requires : goal.fetch_sub-requires
 fetch_sub-requires g c =
     let L = g.S.LevelState in
     let me = c.args.self.now in
-    let at = stood me.stage me.task me.phase me.seat.me c.requires me.stands in
+    let at = stood me.stage me.task me.phase me.width me.is_shown me.seat.me c.requires me.stands in
     let took = c.claim.ensures.claimed c.if-not-claim.false in
     let is = took.1 in
     let y = c.look-seen.new.self in
@@ -20,10 +20,10 @@ fetch_sub-requires g c =
     let tasks = ap (λ m. m.0.tasks) is ∙ at.0 in (
       search rules,
       search rules,
-      releases L.events L.registered L.count L.newest L.ready _ _ _ took.0 y
+      releases L.events L.registered L.count L.width L.newest L.ready _ _ _ took.0 y
           (subst (λ (n : ℕ). 0 < n) (sym (ap length tasks)) (omega arith)) (ap (λ m. m.0.role) is)
           (ap (λ m. (0, y) ∷ rest m.1) is)
-          (subst (λ (z : g.row.S.Denot). IsKept L.events L.registered L.count z y)
+          (subst (λ (z : g.row.S.Denot). IsKept L.events L.registered L.count L.width z y)
           (sym same) c.look-seen.ensures.kept)
           (subst (λ (n : ℕ). L.ready n y) (sym phase) c.look-seen.ensures.ready),
     )

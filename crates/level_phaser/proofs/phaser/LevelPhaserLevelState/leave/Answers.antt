@@ -2,9 +2,10 @@ use Rattle.std.proofs.Common.{rules, ◌+◌, ℕ, refl, List, length, ap, sym, 
 use Rattle.std.proofs.lemmas.Fn.{filter_same}
 use Rattle.phase_model.specs.declared.call.Call.TheVariants.{Drop as drop_task}
 use Rattle.phase_model.specs.Replies.{reply}
+use Rattle.phase_model.specs.declared.terms.Terms.{Terms}
 use Rattle.phase_model.specs.Rules.{Story}
 use Rattle.level_phaser.specs.RoundLaws.{StandLevel}
-use Rattle.level_phaser.proofs.Answered.{done_event, refused_kept}
+use Rattle.level_phaser.proofs.Answered.{done_event, refused_kept, same_terms}
 use Rattle.level_phaser.proofs.Leaves.{LeftAt, left_level}
 use Rattle.level_phaser.proofs.Sends.{kept_level}
 use Rattle.level_phaser.proofs.phaser.LevelPhaserLevelState.leave.Goals as goal
@@ -23,6 +24,8 @@ returns-in-Ok-clause-left c _ =
           ∙ sym d.tasks.ok.0,
       k.gone,
       k.others,
+      ap (λ (z : Story). length z.terms.ops) c.leave-outcome.ensures.history
+          ∙ ap (λ (t : Terms). length t.ops) (same_terms s (reply s (drop_task t))),
     )
 
 pub returns-in-Ok-clause-ready : goal.returns-in-Ok-clause-ready
@@ -44,8 +47,13 @@ returns-in-Err-clause-kept c _ =
     let s = d.phaser.story in
     let same = c.leave-outcome.ensures.history ∙ refused_kept s (reply s (drop_task c.args.task)) _
     (sym c.in-Err.ensures.reply) in
-    let k = kept_level c.args.phase d.tasks.items s _ c.requires.ready.1 same in
-    (k.longer, refl, λ u live. k.all u tt live)
+    let k = kept_level c.args.phase d.tasks.items s _ c.requires.ready.1 same in (
+      k.longer,
+      refl,
+      (λ u live. k.all u tt live),
+      ap (λ (z : Story). length z.terms.ops) c.leave-outcome.ensures.history
+          ∙ ap (λ (t : Terms). length t.ops) (same_terms s (reply s (drop_task c.args.task))),
+    )
 
 pub returns-in-Err-clause-ready : goal.returns-in-Err-clause-ready
 returns-in-Err-clause-ready c =

@@ -1,4 +1,9 @@
-use Rattle.std.proofs.Common.{refl}
+use Rattle.std.proofs.Common.{refl, ap, ◌∙◌, length}
+use Rattle.phase_model.specs.declared.terms.Terms.{Terms}
+use Rattle.phase_model.specs.declared.call.Call.TheVariants.{Look as look}
+use Rattle.phase_model.specs.Rules.{Story}
+use Rattle.phase_model.specs.Replies.{reply}
+use Rattle.level_phaser.proofs.Answered.{same_terms}
 use Rattle.level_phaser.proofs.Sends.{looked_level}
 use Rattle.level_phaser.proofs.phaser.LevelPhaserLevelState.look.Goals as goal
 
@@ -6,7 +11,13 @@ pub returns-clause-kept : goal.returns-clause-kept
 returns-clause-kept c =
     let k = looked_level c.args.phase c.args.task c.args.accumulator c.args.self.now.tasks.items
     c.args.self.now.phaser.story _ c.requires.ready.1 c.look-seen.ensures.history in
-    (k.longer, refl, λ u live. k.all u tt live)
+    let s = c.args.self.now.phaser.story in (
+      k.longer,
+      refl,
+      (λ u live. k.all u tt live),
+      ap (λ (z : Story). length z.terms.ops) c.look-seen.ensures.history
+          ∙ ap (λ (t : Terms). length t.ops) (same_terms s (reply s (look c.args.task c.args.accumulator))),
+    )
 
 pub returns-clause-ready : goal.returns-clause-ready
 returns-clause-ready c =

@@ -1,4 +1,5 @@
-use Rattle.std.proofs.Common.{◌+◌, ℕ, List, refl, sym, subst, arith}
+use Rattle.std.proofs.Common.{ap, length, ◌+◌, ℕ, List, refl, sym, subst, arith}
+use Rattle.phase_model.specs.declared.terms.Terms.{Terms}
 use Rattle.level_phaser.specs.LevelPhasers.{IsReady}
 use Rattle.level_phaser.proofs.phaser.LevelPhaserLevelState.make_round.Goals as goal
 
@@ -15,7 +16,10 @@ turn_all-requires c =
 pub returns-clause-round : goal.returns-clause-round
 returns-clause-round c whole =
     let k = c.turn_all.ensures.made whole in
-    (k.longer, refl, k.each)
+    (k.longer, refl, k.each, ap (λ (t : Terms). length t.ops) k.terms)
+
+pub returns-clause-all : goal.returns-clause-all
+returns-clause-all c t live = c.requires.ready.1.all t live
 
 pub returns-clause-ready : goal.returns-clause-ready
 returns-clause-ready c whole =
