@@ -61,67 +61,69 @@ extern "C" {
 
 /* What a function answers. */
 typedef enum paldwosk_answer {
-  PALDWOSK_DONE = 0, /* it was done */
+  PALDWOSK_DONE = 0, /* the call was done */
 
   /* The call was refused, and changed nothing. The numbers are those that the program prints. */
-  PALDWOSK_NOT_REGISTERED = 1,    /* the task isn't registered on the phaser */
-  PALDWOSK_NO_SIGNAL = 2,         /* its mode can't signal */
-  PALDWOSK_NO_WAIT = 3,           /* its mode can't wait */
-  PALDWOSK_NO_SINGLE = 4,         /* its mode isn't PALDWOSK_SINGLE */
-  PALDWOSK_ALREADY_SIGNALLED = 5, /* it has signalled since its last turn */
-  PALDWOSK_NOT_SIGNALLED = 6,     /* it can signal, and hasn't done so since its last turn */
+  PALDWOSK_NOT_REGISTERED = 1,    /* the task isn't registered, or it has left */
+  PALDWOSK_NO_SIGNAL = 2,         /* the task's mode can't signal */
+  PALDWOSK_NO_WAIT = 3,           /* the task's mode can't wait, so it can't look either */
+  PALDWOSK_NO_SINGLE = 4,         /* the task's mode isn't SINGLE */
+  PALDWOSK_ALREADY_SIGNALLED = 5, /* the task has signalled since its last turn */
+  PALDWOSK_NOT_SIGNALLED = 6,     /* the task can signal, and hasn't done so since its last turn */
   PALDWOSK_SINGLE_MISMATCH = 7,   /* another number is proposed in this phase */
   PALDWOSK_ONE_PHASER_ONLY = 8,   /* of worlds alone: a single asks for exactly one registration */
   PALDWOSK_NO_ACCUMULATOR = 9,    /* the phaser has no accumulator of that index */
-  PALDWOSK_NO_PHASE_YET = 10,     /* the reader has ended no turn yet */
+  PALDWOSK_NO_PHASE_YET = 10,     /* the task has ended no turn yet */
   PALDWOSK_MORE_THAN_PARENT = 11, /* the child's mode isn't within the parent's */
-  PALDWOSK_OUTSIDE_SCOPE = 12,    /* of worlds alone */
-  PALDWOSK_REGISTERED_TWICE = 13, /* the child was registered there before */
-  PALDWOSK_REGS_FULL = 14,        /* registrations at once are at the limit */
+  PALDWOSK_OUTSIDE_SCOPE = 12,    /* of worlds alone: the phaser wasn't made in the innermost finish */
+  PALDWOSK_REGISTERED_TWICE = 13, /* the child was registered there before, or is named twice */
+  PALDWOSK_REGS_FULL = 14,        /* as many tasks are registered as the limits allow */
   PALDWOSK_HISTORY_FULL = 15,     /* the history has no room for the event */
-  PALDWOSK_PHASERS_FULL = 16,     /* of worlds alone */
-  PALDWOSK_TASKS_FULL = 17,       /* the task number is at the limit */
-  PALDWOSK_FINISHES_FULL = 18,    /* of worlds alone */
-  PALDWOSK_ACTS_FULL = 19,        /* of worlds alone */
-  PALDWOSK_FINISH_OPEN = 20,      /* of worlds alone */
-  PALDWOSK_NO_FINISH = 21,        /* of worlds alone */
-  PALDWOSK_NOT_NOW = 22,          /* the wrong moment: made already, no single to report, a proposed single not done */
+  PALDWOSK_PHASERS_FULL = 16,     /* of worlds alone: the phaser number is at the limit, or the task holds 16 phasers */
+  PALDWOSK_TASKS_FULL = 17,       /* the task number is at the limit or above */
+  PALDWOSK_FINISHES_FULL = 18,    /* of worlds alone: the finish number is at the limit */
+  PALDWOSK_ACTS_FULL = 19,        /* of worlds alone: the task's acts are at the limit */
+  PALDWOSK_FINISH_OPEN = 20,      /* of worlds alone: the task ends with an open finish of its own */
+  PALDWOSK_NO_FINISH = 21,        /* of worlds alone: the task has no open finish of its own to shut */
+  PALDWOSK_NOT_NOW = 22,          /* the wrong moment: what is asked has no place here now */
   PALDWOSK_MEMORY = 23,           /* memory was refused */
-  PALDWOSK_BAD_TEXT = 24,         /* of texts alone */
-  PALDWOSK_NOT_EXPLAINED = 25,    /* of traces alone */
-  PALDWOSK_SHARES_DIFFER = 26,    /* of runs on threads alone */
+  PALDWOSK_BAD_TEXT = 24,         /* of texts alone: the text isn't of the form */
+  PALDWOSK_NOT_EXPLAINED = 25,    /* of traces alone: an event of the trace can't follow those before it */
+  PALDWOSK_SHARES_DIFFER = 26,    /* of runs on threads alone: gathered shares and books differ */
 
-  /* The call was answered, and isn't simply done. */
-  PALDWOSK_NOT_YET = 32,  /* nothing changed: it asks again after another's call; in phaser_c_waiting_.. it waits */
-  PALDWOSK_CLAIMED = 33,  /* the task runs the single, reports it done, and asks to pass again */
-  PALDWOSK_NOTHING = 34,  /* there is no least and no greatest of no values */
-  PALDWOSK_NOT_KEPT = 35, /* no such accumulator, or the phase is too great, or its fold is given up */
-  PALDWOSK_TOO_GREAT = 36, /* the fold isn't within an int64_t: it takes 2^32 values in one phase */
+  /* The call was answered, and isn't simply done. On NOT_YET of phaser_c_waiting_.. the task waits. */
+  PALDWOSK_NOT_YET = 32,   /* nothing has changed */
+  PALDWOSK_CLAIMED = 33,   /* the task is to run the single */
+  PALDWOSK_NOTHING = 34,   /* there is no least and no greatest of no values */
+  PALDWOSK_NOT_KEPT = 35,  /* what is asked for isn't kept */
+  PALDWOSK_TOO_GREAT = 36, /* the fold isn't within 64 bits: it takes 2^32 values in one phase */
 
-  /* An answer of paldwosk_barrier.h alone. No function of the archive has it. */
-  PALDWOSK_TIMED_OUT = 48, /* the time is over and the call isn't: it goes on, and the same call waits for its answer */
+  /* An answer of paldwosk_barrier.h alone, of no function of the archive. The call goes on, and the same call waits for
+   * its answer. */
+  PALDWOSK_TIMED_OUT = 48, /* the time is over and the call isn't */
 
-  /* What was passed is at fault. Nothing changed, except *written if the room is too small. */
-  PALDWOSK_NULL = 64,          /* a pointer is NULL */
-  PALDWOSK_CLOSED = 65,        /* the paldwosk_phaser holds no phaser, the paldwosk_judge no judge */
-  PALDWOSK_OPEN = 66,          /* the paldwosk_phaser holds a phaser already, the paldwosk_judge a judge */
-  PALDWOSK_SHORT = 67,         /* the room is too small: *written says how many bytes the text has. For tasks: it has to be 256 */
+  /* What was passed is at fault. Nothing changed, except *written if the room is too small. Room for tasks has to
+   * be PALDWOSK_MOST_FREED. */
+  PALDWOSK_NULL = 64,          /* a pointer is NULL that may not be, or the task is zeroed */
+  PALDWOSK_CLOSED = 65,        /* there is no phaser or judge, or it was freed, or a fork has left it behind */
+  PALDWOSK_OPEN = 66,          /* there is a phaser or judge already */
+  PALDWOSK_SHORT = 67,         /* the room is too small */
   PALDWOSK_BAD_MODE = 68,      /* no mode has this number */
   PALDWOSK_BAD_LIMITS = 69,    /* a limit isn't between its least and its greatest */
-  PALDWOSK_BAD_OPERATORS = 70, /* no operator has one of the numbers, or there are more than four */
-  PALDWOSK_BAD_BOUND = 71,     /* the bound is over 65,536; for threads that wait also 0 */
+  PALDWOSK_BAD_OPERATORS = 70, /* there are more than four operators, or no operator has one of the numbers */
+  PALDWOSK_BAD_BOUND = 71,     /* the bound isn't one of 1 to 65,536 phases */
   PALDWOSK_BAD_TICKETS = 72,   /* there aren't as many tickets as events */
   PALDWOSK_BAD_KIND = 73,      /* no kind of event has this number */
 
   /* Answers of a judge alone, beside those of 1 to 22: the event can't be. The judge is over. */
-  PALDWOSK_NOT_MADE = 80,           /* the phaser isn't made, or its last task has left it */
-  PALDWOSK_MADE_ALREADY = 81,       /* the phaser is made already */
-  PALDWOSK_REGISTERED_ALREADY = 82, /* the child is registered on the phaser already */
-  PALDWOSK_HAD_TO_WAIT = 83,        /* the task had to wait: for others, for its single, or by the bound */
-  PALDWOSK_CLAIMS_INSTEAD = 84,     /* it is a pass, but the task had a single to claim */
-  PALDWOSK_PASSES_INSTEAD = 85,     /* it is a claim, but the task had no single to claim, and passed */
-  PALDWOSK_SAW_OTHER = 86,          /* the look saw another value than the phaser had */
-  PALDWOSK_OVER = 87                /* an event was refused before, so nothing is said of this one */
+  PALDWOSK_NOT_MADE = 80,           /* the event's phaser isn't made, or its last task has left it */
+  PALDWOSK_MADE_ALREADY = 81,       /* the event makes a phaser that is there */
+  PALDWOSK_REGISTERED_ALREADY = 82, /* the event registers a task that is registered there */
+  PALDWOSK_HAD_TO_WAIT = 83,        /* the event came before those that the task had to wait for */
+  PALDWOSK_CLAIMS_INSTEAD = 84,     /* the task passed, but it had the single of its phase to run */
+  PALDWOSK_PASSES_INSTEAD = 85,     /* the task claimed a single, but its phase had none left to run */
+  PALDWOSK_SAW_OTHER = 86,          /* the look saw another value than was sent to the phase before */
+  PALDWOSK_OVER = 87                /* the judge refused an event before, and judges no more */
 } paldwosk_answer;
 
 /* What an answer means and what to do about it, in one sentence for a person, beginning with its name and number: of
@@ -135,49 +137,57 @@ PALDWOSK_INLINE const char *paldwosk_answer_text(paldwosk_answer answer) {
     case PALDWOSK_NOT_REGISTERED: return "NotRegistered (1): the task isn't registered, or it has left; join it first";
     case PALDWOSK_NO_SIGNAL:
       return "NoSignal (2): the task's mode can't signal; join the task with SIG, SIG_WAIT or SINGLE, or have it wait";
-    case PALDWOSK_NO_WAIT: return "NoWait (3): the task's mode can't wait; join the task with WAIT, SIG_WAIT or SINGLE";
-    case PALDWOSK_NO_SINGLE: return "NoSingle (4): the task's mode has no singles; join the task with SINGLE";
+    case PALDWOSK_NO_WAIT:
+      return "NoWait (3): the task's mode can't wait, so it can't look either; "
+             "join the task with WAIT, SIG_WAIT or SINGLE";
+    case PALDWOSK_NO_SINGLE:
+      return "NoSingle (4): the task's mode isn't SINGLE; join the task with SINGLE, or propose no single";
     case PALDWOSK_ALREADY_SIGNALLED:
-      return "AlreadySignalled (5): the task has signalled this phase; let it wait before it signals again";
+      return "AlreadySignalled (5): the task has signalled since its last turn; end the turn before you signal again";
     case PALDWOSK_NOT_SIGNALLED:
-      return "NotSignalled (6): the task hasn't signalled this phase; let it signal before it waits";
+      return "NotSignalled (6): the task can signal, and hasn't done so since its last turn; "
+             "signal before you end the turn";
     case PALDWOSK_SINGLE_MISMATCH:
-      return "SingleMismatch (7): another single is proposed in this phase; propose that number, or signal without one";
+      return "SingleMismatch (7): another number is proposed in this phase; propose that number, or signal without one";
     case PALDWOSK_ONE_PHASER_ONLY:
       return "OnePhaserOnly (8): a single asks for exactly one registration; leave the other phasers first";
     case PALDWOSK_NO_ACCUMULATOR:
       return "NoAccumulator (9): the phaser has no accumulator of that index; "
-             "name its operator when you make the phaser";
-    case PALDWOSK_NO_PHASE_YET:
-      return "NoPhaseYet (10): the task has passed no phase yet; let it pass one before it looks";
+             "name its operator when you make the phaser (the first has index 0)";
+    case PALDWOSK_NO_PHASE_YET: return "NoPhaseYet (10): the task has ended no turn yet; look after its first turn";
     case PALDWOSK_MORE_THAN_PARENT:
-      return "MoreThanParent (11): the child's mode isn't within its parent's; give the parent more, or the child less";
+      return "MoreThanParent (11): the child's mode isn't within the parent's; "
+             "take a mode that does less, or another parent";
     case PALDWOSK_OUTSIDE_SCOPE:
       return "OutsideScope (12): the phaser wasn't made in the innermost finish; register on it from its own finish";
     case PALDWOSK_REGISTERED_TWICE:
-      return "RegisteredTwice (13): the child was registered before; give it a number that is new";
+      return "RegisteredTwice (13): the child was registered there before, or is named twice; "
+             "name it once, by a number that no task has or had";
     case PALDWOSK_REGS_FULL:
       return "RegsFull (14): as many tasks are registered as the limits allow; let one leave first";
     case PALDWOSK_HISTORY_FULL:
       return "HistoryFull (15): the history has no room for the event; raise its limit, or make a new phaser";
     case PALDWOSK_PHASERS_FULL:
-      return "PhasersFull (16): there are as many phasers as the limits allow; raise the limit, or use fewer";
+      return "PhasersFull (16): the phaser number is at the limit, or the task holds 16 phasers; "
+             "raise the limit, or use fewer";
     case PALDWOSK_TASKS_FULL:
-      return "TasksFull (17): the task number is at the limit; raise the limit, or use smaller numbers";
-    case PALDWOSK_FINISHES_FULL:
-      return "FinishesFull (18): there are as many finishes as the limits allow; raise the limit";
+      return "TasksFull (17): the task number is at the limit or above; raise the limit, or use smaller numbers";
+    case PALDWOSK_FINISHES_FULL: return "FinishesFull (18): the finish number is at the limit; raise the limit";
     case PALDWOSK_ACTS_FULL:
-      return "ActsFull (19): the task has made as many acts as the limits allow; raise the limit";
-    case PALDWOSK_FINISH_OPEN: return "FinishOpen (20): the task has an open finish; shut it before the task ends";
-    case PALDWOSK_NO_FINISH: return "NoFinish (21): the task has no open finish; open one before it shuts one";
+      return "ActsFull (19): the task's acts are at the limit; raise the limit, or spawn a child for the rest";
+    case PALDWOSK_FINISH_OPEN:
+      return "FinishOpen (20): the task ends with an open finish of its own; shut it before the task ends";
+    case PALDWOSK_NO_FINISH:
+      return "NoFinish (21): the task has no open finish of its own to shut; open one before it shuts one";
     case PALDWOSK_NOT_NOW:
-      return "NotNow (22): the call has no place at this moment; wait until the task's other call or single is over";
+      return "NotNow (22): the wrong moment: what is asked has no place here now; "
+             "make a phaser once, leave after a single is done, go on with a call whose time is over";
     case PALDWOSK_MEMORY: return "Memory (23): memory was refused; free some, or ask for less";
     case PALDWOSK_BAD_TEXT: return "BadText (24): the text isn't of the form; compare it with docs/formats.md";
     case PALDWOSK_NOT_EXPLAINED:
       return "NotExplained (25): an event of the trace can't follow those before it; look at the place that is named";
     case PALDWOSK_SHARES_DIFFER:
-      return "SharesDiffer (26): what was gathered on threads differs; report it as a fault of the library";
+      return "SharesDiffer (26): gathered shares and books differ; report it as a fault of the library";
     case PALDWOSK_NOT_YET: return "NotYet (32): nothing has changed; ask again after another task's call";
     case PALDWOSK_CLAIMED:
       return "Claimed (33): the task is to run the single; run it, report it done, and ask to pass again";
@@ -186,7 +196,8 @@ PALDWOSK_INLINE const char *paldwosk_answer_text(paldwosk_answer answer) {
       return "NotKept (35): what is asked for isn't kept; "
              "make a traced barrier, or ask of another phase or accumulator";
     case PALDWOSK_TOO_GREAT:
-      return "TooGreat (36): the fold isn't within an int64_t; send fewer or smaller values in a phase";
+      return "TooGreat (36): the fold isn't within 64 bits: it takes 2^32 values in one phase; "
+             "go on without it, or send fewer";
     case PALDWOSK_TIMED_OUT:
       return "TimedOut (48): the time is over and the call isn't; make the same call again, or let the task leave";
     case PALDWOSK_NULL:
@@ -198,26 +209,24 @@ PALDWOSK_INLINE const char *paldwosk_answer_text(paldwosk_answer answer) {
       return "Short (67): the room is too small; call again with as much as the call says that it takes";
     case PALDWOSK_BAD_MODE: return "BadMode (68): no mode has this number; use one of the four of paldwosk_mode";
     case PALDWOSK_BAD_LIMITS:
-      return "BadLimits (69): a limit isn't within its range; begin with PALDWOSK_DEFAULT_LIMITS";
+      return "BadLimits (69): a limit isn't between its least and its greatest; begin with the default limits";
     case PALDWOSK_BAD_OPERATORS:
-      return "BadOperators (70): no operator has one of the numbers, or there are more than four; "
-             "use those of paldwosk_operator";
+      return "BadOperators (70): there are more than four operators, or no operator has one of the numbers; "
+             "take at most four, of sum, least and greatest";
     case PALDWOSK_BAD_BOUND:
-      return "BadBound (71): the bound is over 65,536, or 0 for threads that wait; "
-             "take 2 if each task signals and waits";
+      return "BadBound (71): the bound isn't one of 1 to 65,536 phases; take 2 if each task signals and waits";
     case PALDWOSK_BAD_TICKETS:
       return "BadTickets (72): there aren't as many tickets as events; draw one for each event";
     case PALDWOSK_BAD_KIND:
       return "BadKind (73): no kind of event has this number; use one of the eleven of paldwosk_judged_kind";
     case PALDWOSK_NOT_MADE:
-      return "NotMade (80): the event's phaser isn't made, or its last task has left it; "
-             "see that its make is handed over first";
+      return "NotMade (80): the event's phaser isn't made, or its last task has left it; hand its make over first";
     case PALDWOSK_MADE_ALREADY:
       return "MadeAlready (81): the event makes a phaser that is there; "
-             "see that its last drop is handed over before its number is used again";
+             "hand its last drop over before you use its number again";
     case PALDWOSK_REGISTERED_ALREADY:
       return "RegisteredAlready (82): the event registers a task that is registered there; "
-             "see that its drop is handed over before its number is used again";
+             "hand its drop over before you use its number again";
     case PALDWOSK_HAD_TO_WAIT:
       return "HadToWait (83): the event came before those that the task had to wait for; "
              "see who hadn't signalled, or had a single to do, or was behind by the bound";
@@ -231,7 +240,8 @@ PALDWOSK_INLINE const char *paldwosk_answer_text(paldwosk_answer answer) {
       return "SawOther (86): the look saw another value than was sent to the phase before; "
              "see which send is lost or counted twice";
     case PALDWOSK_OVER:
-      return "Over (87): the judge refused an event before, and judges no more; look at that event, and make a new judge";
+      return "Over (87): the judge refused an event before, and judges no more; "
+             "look at that event, and make a new judge";
   }
   return "no answer has this number; compare the versions of the header and of the archive";
 }
@@ -652,7 +662,8 @@ PALDWOSK_INLINE paldwosk_answer paldwosk_is_full(paldwosk_phaser *phaser, uint32
 }
 
 /* What the values sent to an accumulator for a closed phase fold to; of a phase that isn't closed, what was folded so far.
- * On DONE *value is it; else it isn't written. NOTHING, NOT_KEPT. */
+ * On DONE *value is it; else it isn't written. NOTHING. NOT_KEPT: there is no such accumulator, the phase is too great,
+ * or its fold is given up. */
 PALDWOSK_MUST_CHECK
 PALDWOSK_INLINE paldwosk_answer paldwosk_fold_at(paldwosk_phaser *phaser, uint32_t accumulator, uint32_t phase,
                                                  int64_t *value) {

@@ -144,7 +144,8 @@ macro_rules! refusals {
         ///
         /// let refusal = Phaser::new(0, &[]).unwrap_err();
         /// assert_eq!(refusal, Refusal::BadBound);
-        /// let text = "refused 71 BadBound: The bound is 0 or over 65,536. Take one of 1 to 65,536 phases.";
+        /// let text = "refused 71 BadBound: The bound isn't one of 1 to 65,536 phases. \
+        ///     Take 2 if each task signals and waits.";
         /// assert_eq!(refusal.to_string(), text);
         /// ```
         #[derive(Clone, Copy, Debug, PartialEq, Eq)]
@@ -172,34 +173,44 @@ macro_rules! refusals {
 }
 
 refusals! {
-    NotRegistered = 1, "The task isn't registered on the phaser. Register it first; once it has left, make no call for it.";
-    NoSignal = 2, "The task's mode can't signal. Take `Sig`, `SigWait` or `Single` for it, or only wait.";
-    NoWait = 3, "The task's mode can't wait, so it can't look either. Take `Wait`, `SigWait` or `Single` for it.";
-    NoSingle = 4, "The task's mode isn't `Single`. Take that mode for it, or propose no single.";
+    NotRegistered = 1, "The task isn't registered, or it has left. Join it first.";
+    NoSignal = 2, "The task's mode can't signal. Join the task with `Sig`, `SigWait` or `Single`, or have it wait.";
+    NoWait = 3, "The task's mode can't wait, so it can't look either. \
+        Join the task with `Wait`, `SigWait` or `Single`.";
+    NoSingle = 4, "The task's mode isn't `Single`. Join the task with `Single`, or propose no single.";
     AlreadySignalled = 5, "The task has signalled since its last turn. End the turn before you signal again.";
     NotSignalled = 6, "The task can signal, and hasn't done so since its last turn. Signal before you end the turn.";
-    SingleMismatch = 7, "Another number is proposed in this phase. Propose the same one by all tasks.";
-    NoAccumulator = 9, "The phaser has no accumulator of that index. The first of its operators has index 0.";
+    SingleMismatch = 7, "Another number is proposed in this phase. Propose that number, or signal without one.";
+    NoAccumulator = 9, "The phaser has no accumulator of that index. \
+        Name its operator when you make the phaser (the first has index 0).";
     NoPhaseYet = 10, "The task has ended no turn yet. Look after its first turn.";
-    MoreThanParent = 11, "The child's mode isn't within the parent's. Take one that does less, or another parent.";
-    RegisteredTwice = 13, "The child was registered there before. Take a number that no task has or had.";
-    RegsFull = 14, "Registrations at once are at the limit, which is 256 at most. Let another task leave first.";
-    HistoryFull = 15, "The history has no room for the event. Begin anew, with a greater limit `history` if there is one.";
-    TasksFull = 17, "The task number is at the limit. Take a smaller number, or a greater limit `tasks`.";
-    NotNow = 22, "The wrong moment. Make a phaser once, leave after a single is done, go on with a call whose time is over.";
-    Memory = 23, "Memory was refused. Take a smaller bound or smaller limits, or free some.";
-    TooGreat = 36, "The fold isn't within an `i64`: it takes 2^32 values in one phase. Go on without it, or send fewer.";
-    BadLimits = 69, "A limit isn't between its least and its greatest. Take each from the range on the page of `Limits`.";
-    BadOperators = 70, "There are more than four operators. Take at most four.";
-    BadBound = 71, "The bound is 0 or over 65,536. Take one of 1 to 65,536 phases.";
-    BadTickets = 72, "There aren't as many tickets as events. Give one for each that `event_count` counts.";
-    NotMade = 80, "The event's phaser isn't made, or its last task has left it. Hand its `Make` over first.";
-    MadeAlready = 81, "The event makes a phaser that is there. Hand its last `Drop` over before you use its number again.";
-    RegisteredAlready = 82, "The event registers a task that is registered. Hand its `Drop` over first.";
-    HadToWait = 83, "The event came before those that the task had to wait for. See who was behind, or ran a single.";
+    MoreThanParent = 11, "The child's mode isn't within the parent's. Take a mode that does less, or another parent.";
+    RegisteredTwice = 13, "The child was registered there before, or is named twice. \
+        Name it once, by a number that no task has or had.";
+    RegsFull = 14, "As many tasks are registered as the limits allow. Let one leave first.";
+    HistoryFull = 15, "The history has no room for the event. Raise its limit, or make a new phaser.";
+    TasksFull = 17, "The task number is at the limit or above. Raise the limit, or use smaller numbers.";
+    NotNow = 22, "The wrong moment: what is asked has no place here now. \
+        Make a phaser once, leave after a single is done, go on with a call whose time is over.";
+    Memory = 23, "Memory was refused. Free some, or ask for less.";
+    TooGreat = 36, "The fold isn't within 64 bits: it takes 2^32 values in one phase. Go on without it, or send fewer.";
+    BadLimits = 69, "A limit isn't between its least and its greatest. Begin with the default limits.";
+    BadOperators = 70, "There are more than four operators, or no operator has one of the numbers. \
+        Take at most four, of sum, least and greatest.";
+    BadBound = 71, "The bound isn't one of 1 to 65,536 phases. Take 2 if each task signals and waits.";
+    BadTickets = 72, "There aren't as many tickets as events. Draw one for each event.";
+    NotMade = 80, "The event's phaser isn't made, or its last task has left it. Hand its make over first.";
+    MadeAlready = 81, "The event makes a phaser that is there. \
+        Hand its last drop over before you use its number again.";
+    RegisteredAlready = 82, "The event registers a task that is registered there. \
+        Hand its drop over before you use its number again.";
+    HadToWait = 83, "The event came before those that the task had to wait for. \
+        See who hadn't signalled, or had a single to do, or was behind by the bound.";
     ClaimsInstead = 84, "The task passed, but it had the single of its phase to run. See who ran the single, and when.";
-    PassesInstead = 85, "The task claimed a single, but its phase had none left to run. See whether the single ran twice.";
-    SawOther = 86, "The look saw another value than was sent to the phase before. See which send is lost or counted twice.";
+    PassesInstead = 85, "The task claimed a single, but its phase had none left to run. \
+        See whether the single ran twice.";
+    SawOther = 86, "The look saw another value than was sent to the phase before. \
+        See which send is lost or counted twice.";
     Over = 87, "The judge refused an event before, and judges no more. Look at that event, and make a new judge.";
 }
 

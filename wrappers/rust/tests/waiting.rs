@@ -341,7 +341,7 @@ fn refusal_comes_to_who_slept() {
 
 #[test]
 fn refusals_have_their_words() {
-    let text = "refused 14 RegsFull: Registrations at once are at the limit, which is 256 at most. Let another task leave first.";
+    let text = "refused 14 RegsFull: As many tasks are registered as the limits allow. Let one leave first.";
     assert_eq!(Refusal::RegsFull.to_string(), text);
     let text = "refused 5 AlreadySignalled: The task has signalled since its last turn. End the turn before you signal again.";
     assert_eq!(Refusal::AlreadySignalled.to_string(), text);

@@ -95,7 +95,8 @@ fn what_is_wrong_is_refused() {
     assert_eq!(PhaserState::new(Limits::default(), &[Operator::Sum; 5], None).err(), Some(Refusal::BadOperators));
     assert_eq!(PhaserState::new(Limits::default(), &[], Some(0)).err(), Some(Refusal::BadBound));
     assert_eq!(PhaserState::new(Limits::default(), &[], Some(65_537)).err(), Some(Refusal::BadBound));
-    let text = "refused 9 NoAccumulator: The phaser has no accumulator of that index. The first of its operators has index 0.";
+    let text = "refused 9 NoAccumulator: The phaser has no accumulator of that index. \
+        Name its operator when you make the phaser (the first has index 0).";
     assert_eq!(Refusal::NoAccumulator.to_string(), text);
 }
 
