@@ -220,13 +220,14 @@ PALDWOSK_INLINE const char *paldwosk_answer_text(paldwosk_answer answer) {
     case PALDWOSK_BAD_KIND:
       return "BadKind (73): no kind of event has this number; use one of the eleven of paldwosk_judged_kind";
     case PALDWOSK_NOT_MADE:
-      return "NotMade (80): the event's phaser isn't made, or its last task has left it; hand its make over first";
+      return "NotMade (80): the event's phaser isn't made, or its last task has left it; "
+             "see that its make is handed over first";
     case PALDWOSK_MADE_ALREADY:
       return "MadeAlready (81): the event makes a phaser that is there; "
-             "hand its last drop over before you use its number again";
+             "see that its last drop is handed over before its number is used again";
     case PALDWOSK_REGISTERED_ALREADY:
       return "RegisteredAlready (82): the event registers a task that is registered there; "
-             "hand its drop over before you use its number again";
+             "see that its drop is handed over before its number is used again";
     case PALDWOSK_HAD_TO_WAIT:
       return "HadToWait (83): the event came before those that the task had to wait for; "
              "see who hadn't signalled, or had a single to do, or was behind by the bound";

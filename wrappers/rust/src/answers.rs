@@ -199,11 +199,12 @@ refusals! {
         Take at most four, of sum, least and greatest.";
     BadBound = 71, "The bound isn't one of 1 to 65,536 phases. Take 2 if each task signals and waits.";
     BadTickets = 72, "There aren't as many tickets as events. Draw one for each event.";
-    NotMade = 80, "The event's phaser isn't made, or its last task has left it. Hand its make over first.";
+    NotMade = 80, "The event's phaser isn't made, or its last task has left it. \
+        See that its make is handed over first.";
     MadeAlready = 81, "The event makes a phaser that is there. \
-        Hand its last drop over before you use its number again.";
+        See that its last drop is handed over before its number is used again.";
     RegisteredAlready = 82, "The event registers a task that is registered there. \
-        Hand its drop over before you use its number again.";
+        See that its drop is handed over before its number is used again.";
     HadToWait = 83, "The event came before those that the task had to wait for. \
         See who hadn't signalled, or had a single to do, or was behind by the bound.";
     ClaimsInstead = 84, "The task passed, but it had the single of its phase to run. See who ran the single, and when.";
