@@ -11,6 +11,8 @@ use Rattle.level_phaser.specs.declared.view.SeatedTask.{SeatedTask}
 use Rattle.level_phaser.specs.declared.view.Role.{Role}
 use Rattle.level_phaser.specs.declared.view.Role.TheVariants.{Stands, Came, Last, Holder, Gone}
 use Rattle.phase_model.specs.declared.history.Event.{Event}
+use Rattle.phase_model.specs.declared.call.Call.{Call}
+use Rattle.phase_model.specs.Replies.{Reply}
 use Rattle.told_history.specs.Tails.{IsTail}
 use Rattle.level_phaser.specs.Deeds.{deeds, deeds_of}
 use Rattle.level_phaser.specs.Changes.{IsJoined, IsSent, IsLeft, IsKept}
@@ -19,10 +21,13 @@ use Rattle.level_phaser.specs.inner.Board.{busy, total, missing, Each, FitsIn, F
 use Rattle.level_phaser.specs.inner.Plays.{claimed, joined, left, released, shown}
 use Rattle.level_phaser.specs.inner.Board.{sent_in, IsFound, Shown, Rows}
 use Rattle.level_phaser.proofs.Rows.{beside, beyond_last, shown_known, rows_on}
+use Rattle.std.proofs.lemmas.Bool.{false≢true}
+use Rattle.level_phaser.specs.inner.Folds.{Began}
+use Rattle.level_phaser.proofs.Begins.{below_folds, begins_on, known_fresh}
 use Rattle.level_phaser.proofs.Totals.{total_set, total_at}
 use Rattle.level_phaser.proofs.Keeps.{tail_on, tail_same, put, put_here, put_else, after, fits_as, missing_as, few, cases, none_holds, at_home, unmoved, are_seated, set_home, each_moves}
 
-module _ {S : Type 0} (events : S → List Event) (registered : ℕ → S → Bool) (count : S → ℕ) (width : S → ℕ) (newest : S → ℕ)
+module _ {S : Type 0} (events : S → List Event) (registered : ℕ → S → Bool) (count : S → ℕ) (width : S → ℕ) (newest : S → ℕ) (replies : S → Call → Reply)
     (ready : ℕ → S → Type 0) where
   abbrev H : Type 0
   H = SeatView S
@@ -34,7 +39,7 @@ module _ {S : Type 0} (events : S → List Event) (registered : ℕ → S → Bo
   Mine = Me S H
 
   abbrev Rule : St → Type 0
-  Rule = IsLevel events registered count width ready
+  Rule = IsLevel events registered count width replies ready
 
   abbrev Ok : (ℕ → ℕ) → S → ℕ → List SeatedTask → Type 0
   Ok = Each events registered count width ready
@@ -54,29 +59,29 @@ module _ {S : Type 0} (events : S → List Event) (registered : ℕ → S → Bo
   pub claims : (slots id : ℕ) (me : Mine) (old new : ℕ) → 0 < old → old < busy → new ≡ old + busy
       → me.0.role ≡ Stands → me.1 ≡ []
       → Allows Rule slots id me 0 (λ x. either (eqb x old) new x)
-      (claimed events registered width newest ready (step slots 0 old new none) me)
+      (claimed events registered width newest replies ready (step slots 0 old new none) me)
   claims slots id me old new some_old free_old is_new stands bare s r _ at _ =
       let x : ℕ = word0 s in
       let v : H = me.0 in
-      let level = fits_as events registered count width newest ready s r id v Stands at stands in
+      let level = fits_as events registered count width newest replies ready s r id v Stands at stands in
       let n : ℕ = total (missing r.phase) s.views in
       dite (ℕ_discrete x old)
       (λ hit.
       let w : H = with_role v (Holder r.value) in
-      let home : s.homes ≡ some r.value ∷ [] = at_home events registered count width newest ready x r.value s.homes (omega arith) (omega arith) r.home in
+      let home : s.homes ≡ some r.value ∷ [] = at_home events registered count width newest replies ready x r.value s.homes (omega arith) (omega arith) r.home in
       let is_n : x ≡ n = ⊎_elim (λ (t : (x < busy) × (x ≡ n) × (r.held ≡ false)). t.1)
       (λ (t : (busy ≤ x) × (x ≡ n + busy) × (r.held ≡ true)). let q = t.0 in absurd (omega arith))
-      (cases events registered count width newest ready s r) in
+      (cases events registered count width newest replies ready s r) in
       let now : get_or (set s.words 0 new) 0 0 ≡ new = get_or-set_same s.words 0 new 0 (let wide = r.wide in
       omega arith) in
-      let mv : missing r.phase v ≡ length v.tasks = missing_as events registered count width newest ready v Stands r.phase stands in
+      let mv : missing r.phase v ≡ length v.tasks = missing_as events registered count width newest replies ready v Stands r.phase stands in
       let mw : missing r.phase w ≡ length v.tasks = refl in
       let sum = total_set (missing r.phase) s.views id v w at in (
         w,
         takes 0 r.value,
         ap (λ hs. get_elem? hs 0) home,
         subst (λ b. Rule (stepped s 0 (either b new x) id me.1 w (takes 0 r.value))) (sym (eq-eqb x old hit))
-            (after events registered count width newest ready s r (set s.words 0 new) (set s.homes 0 none) id v w r.phase r.value id r.seat true at
+            (after events registered count width newest replies ready s r (set s.words 0 new) (set s.homes 0 none) id v w r.phase r.value id r.seat true at
             (length-set s.words 0 new ∙ r.wide) (ap (λ (z : ℕ). z + length v.tasks) r.parts) r.small
             (now ∙ omega arith)
             (subst (λ (z : ℕ). z ≤ r.phase)
@@ -85,19 +90,22 @@ module _ {S : Type 0} (events : S → List Event) (registered : ℕ → S → Bo
             ((r.each id v at).0, (level.1, omega arith, refl, refl, level.2))
             (λ i h other e. let f = r.each i h e in (
               f.0,
-              none_holds events registered count width newest ready r.seat h.role h.tasks h.phase r.phase x _ r.value r.holder id i (omega arith)
+              none_holds events registered count width newest replies ready r.seat h.role h.tasks h.phase r.phase x _ r.value r.holder id i (omega arith)
                   (omega arith) f.1,
             ))
             r.stands
             (let k = r.rows.each id v at in rows_on (width r.value) s.words 0 new s.views id w (omega arith) r.rows
-            k.0 tt k.2)),
+            k.0 tt k.2)
+            (begins_on events registered replies ready width r.phase s.words (set s.words 0 new) s.views id w r.value r.value
+            (below_folds s.words 0 new (omega arith)) (λ _. omega arith) (tail_same (events r.value)) refl r.begins
+            (tt, (r.begins.each id v at).1, tt))),
         (
           (λ _. (
             r.value,
             ap (λ c. (w, (0, r.value) ∷ c)) bare,
             subst (λ (z : ℕ). ready z r.value)
                 (sym level.1) r.stands,
-            are_seated events registered count width newest ready r.seat r.value id v.tasks level.2,
+            are_seated events registered count width newest replies ready r.seat r.value id v.tasks level.2,
             (r.each id v at).0.0,
           )),
           λ not. absurd (not hit),
@@ -108,7 +116,7 @@ module _ {S : Type 0} (events : S → List Event) (registered : ℕ → S → Bo
         keeps,
         tt,
         subst (λ b. Rule (stepped s 0 (either b new x) id me.1 v keeps))
-            (sym (ne_eqb x old miss)) (unmoved events registered count width newest ready s r 0 id v at),
+            (sym (ne_eqb x old miss)) (unmoved events registered count width newest replies ready s r 0 id v at),
         ((λ hit. absurd (miss hit)), λ _. refl),
       ))
 
@@ -118,12 +126,12 @@ module _ {S : Type 0} (events : S → List Event) (registered : ℕ → S → Bo
       × (deeds_of task (events y) ≡ deeds_of task (events x)))
       → Suits seat role tasks at phase word x holder i → Suits seat' role tasks at phase word' y holder i
   given_role seat seat' Stands tasks at phase word word' x y holder i id held other mine moves f =
-      (f.0, f.1, each_moves events registered count width newest ready seat seat' x y i tasks moves f.2)
+      (f.0, f.1, each_moves events registered count width newest replies ready seat seat' x y i tasks moves f.2)
   given_role seat seat' Came tasks at phase word word' x y holder i id held other mine moves f = (
     f.0,
-    ⊎_elim (λ (e : (at ≡ phase) × Ok seat x i tasks). inl (e.0, each_moves events registered count width newest ready seat seat' x y i tasks moves e.1))
+    ⊎_elim (λ (e : (at ≡ phase) × Ok seat x i tasks). inl (e.0, each_moves events registered count width newest replies ready seat seat' x y i tasks moves e.1))
         (λ (e : (at + 1 ≡ phase) × Ok seat x i (signalled tasks)). inr
-        (e.0, each_moves events registered count width newest ready seat seat' x y i (signalled tasks) moves e.1)) f.1,
+        (e.0, each_moves events registered count width newest replies ready seat seat' x y i (signalled tasks) moves e.1)) f.1,
   )
   given_role seat seat' (Last u us) tasks at phase word word' x y holder i id held other mine moves f = let q =
       f.1 in absurd (omega arith)
@@ -141,10 +149,11 @@ module _ {S : Type 0} (events : S → List Event) (registered : ℕ → S → Bo
       → Suits seat' w.role w.tasks w.phase r.phase word y r.holder id
       → ((i task : ℕ) → i ≢ id → r.seat task ≡ i → registered task x ≡ true → (registered task y ≡ true)
       × (seat' task ≡ i) × (deeds_of task (events y) ≡ deeds_of task (events x)))
-      → ready v.phase y → Rule record { words = set s.words 0 word; homes = homes; views = set s.views id w }
+      → ready v.phase y → Began events registered replies ready r.begins.begun r.phase (set s.words 0 word) w
+      → Rule record { words = set s.words 0 word; homes = homes; views = set s.views id w }
   given s r id v w x y word homes seat' at holds counts small is_word home longer seen heard shown found wide widths mine moves
-      is_ready =
-      let f = fits_as events registered count width newest ready s r id v (Holder x) at holds in
+      is_ready began =
+      let f = fits_as events registered count width newest replies ready s r id v (Holder x) at holds in
       let same : x ≡ r.value = f.2 in
       let now : get_or (set s.words 0 word) 0 0 ≡ word = get_or-set_same s.words 0 word 0
       (let wide = r.wide in omega arith) in
@@ -164,7 +173,7 @@ module _ {S : Type 0} (events : S → List Event) (registered : ℕ → S → Bo
             (subst (λ (z : S). Suits r.seat h.role h.tasks h.phase r.phase (word0 s) z r.holder i)
             (sym same) fs.1),
       ) in
-      after events registered count width newest ready s r (set s.words 0 word) homes id v w r.phase y r.holder seat' false at (length-set s.words 0 word
+      after events registered count width newest replies ready s r (set s.words 0 word) homes id v w r.phase y r.holder seat' false at (length-set s.words 0 word
       ∙ r.wide) (omega arith) small (now ∙ is_word ∙ omega arith)
       (subst (λ (z : ℕ). z ≤ r.phase) (sym (get_or-set_other s.words 0 16 word 0 (λ e. absurd (omega arith))))
       r.over)
@@ -177,27 +186,30 @@ module _ {S : Type 0} (events : S → List Event) (registered : ℕ → S → Bo
       (ap width (sym same) ∙ sym widths)
       (rows_on (width r.value) s.words 0 word s.views id w (omega arith) r.rows shown found
       (let k = r.rows.each id v at in let k2 = k.2 in omega arith)))
+      (begins_on events registered replies ready width r.phase s.words (set s.words 0 word) s.views id w r.value y
+      (below_folds s.words 0 word (omega arith)) (λ _. let q = f.1 in omega arith)
+      (subst (λ (z : S). IsTail (events z) (events y)) same longer) (widths ∙ ap width same) r.begins began)
 
   held_word : (s : St) (r : Rule s) → busy ≤ word0 s → word0 s ≡ total (missing r.phase) s.views + busy
   held_word s r held =
       ⊎_elim (λ (t : (word0 s < busy) × (word0 s ≡ total (missing r.phase) s.views) × (r.held ≡ false)).
       let q = t.0 in absurd (omega arith))
       (λ (t : (busy ≤ word0 s) × (word0 s ≡ total (missing r.phase) s.views + busy) × (r.held ≡ true)). t.1)
-      (cases events registered count width newest ready s r)
+      (cases events registered count width newest replies ready s r)
 
   pub releases : (slots id : ℕ) (me : Mine) (x y : S) → 0 < length me.0.tasks → me.0.role ≡ Holder x
       → me.1 ≡ (0, y) ∷ [] → IsKept events registered count width x y → ready me.0.phase y
       → Allows Rule slots id me 0 (λ n. (n + (2 ^ 64 - 4611686018427387904)) % 2 ^ 64)
-      (released events registered width newest ready (step slots 0 4611686018427387904 0 none) me)
+      (released events registered width newest replies ready (step slots 0 4611686018427387904 0 none) me)
   releases slots id me x y some_task holds carried kept is_ready s r _ at small =
       let v : H = me.0 in
-      let f = fits_as events registered count width newest ready s r id v (Holder x) at holds in
+      let f = fits_as events registered count width newest replies ready s r id v (Holder x) at holds in
       let same : x ≡ r.value = f.2 in
       let w : H = with_role v Stands in
       let n : ℕ = total (missing r.phase) s.views in
       let is_word = held_word s r f.1 in
-      let few_n = few events registered count width newest ready s r in
-      let mv : missing r.phase v ≡ length v.tasks = missing_as events registered count width newest ready v (Holder x) r.phase holds in
+      let few_n = few events registered count width newest replies ready s r in
+      let mv : missing r.phase v ≡ length v.tasks = missing_as events registered count width newest replies ready v (Holder x) r.phase holds in
       let mw : missing r.phase w ≡ length v.tasks = refl in
       let sum = total_set (missing r.phase) s.views id v w at in
       let less : n ≡ (word0 s + 13835058055282163712) % 18446744073709551616 = omega arith in
@@ -209,16 +221,17 @@ module _ {S : Type 0} (events : S → List Event) (registered : ℕ → S → Bo
         subst (λ (z : ℕ × List (ℕ × S)). Rule (stepped s 0 z.0 id z.1 w gives)) (λ k. (less k, sym carried k))
             (given s r id v w x y n (set s.homes 0 (some y)) r.seat at holds
             (ap (λ (z : ℕ). z + length v.tasks) counts) (omega arith) (omega arith)
-            (inl (set_home events registered count width newest ready (word0 s) r.value y s.homes r.home, omega arith)) kept.0
+            (inl (set_home events registered count width newest replies ready (word0 s) r.value y s.homes r.home, omega arith)) kept.0
             (tail_on v.seen (events x) (events y) (subst (λ (z : S). IsTail v.seen (events z)) (sym same)
             (r.each id v at).0.0) kept.0) refl (r.rows.each id v at).0 tt refl kept.3 (
               some_task,
               f.0,
-              each_moves events registered count width newest ready r.seat r.seat x y id v.tasks
+              each_moves events registered count width newest replies ready r.seat r.seat x y id v.tasks
                   (λ task is there. let t = kept.2 task there in (t.0, is, t.1))
                   (subst (λ (z : S). Ok r.seat z id v.tasks) (sym same) f.4),
             )
-            (λ i task other is there. let t = kept.2 task there in (t.0, is, t.1)) is_ready),
+            (λ i task other is there. let t = kept.2 task there in (t.0, is, t.1)) is_ready
+            (tt, (r.begins.each id v at).1, tt)),
         ap (λ l. (w, carried_after l gives)) carried,
       )
 
@@ -226,19 +239,19 @@ module _ {S : Type 0} (events : S → List Event) (registered : ℕ → S → Bo
       → me.0.role ≡ Holder x → me.1 ≡ (0, y) ∷ [] → IsSent events registered count width c.task e x y
       → ready me.0.phase y
       → Allows Rule slots id me 0 (λ n. (n + (2 ^ 64 - 4611686018427387904)) % 2 ^ 64)
-      (shown events registered width newest ready (step slots 0 4611686018427387904 0 none) me)
+      (shown events registered width newest replies ready (step slots 0 4611686018427387904 0 none) me)
   shows slots id me c e x y one holds carried sent is_ready s r _ at small =
       let v : H = me.0 in
-      let f = fits_as events registered count width newest ready s r id v (Holder x) at holds in
+      let f = fits_as events registered count width newest replies ready s r id v (Holder x) at holds in
       let same : x ≡ r.value = f.2 in
       let w : H = with_seen v (events y) in
       let n : ℕ = total (missing r.phase) s.views in
       let is_word = held_word s r f.1 in
-      let few_n = few events registered count width newest ready s r in
+      let few_n = few events registered count width newest replies ready s r in
       let lv : length v.tasks ≡ 1 = ap length one in
       let tw : w.tasks ≡ seated c.task (deeds_of c.task (events y)) c.pending ∷ [] = ap (known_by (events y)) one in
       let lw : length w.tasks ≡ 1 = ap length tw in
-      let mv : missing r.phase v ≡ length v.tasks = missing_as events registered count width newest ready v (Holder x) r.phase holds in
+      let mv : missing r.phase v ≡ length v.tasks = missing_as events registered count width newest replies ready v (Holder x) r.phase holds in
       let mw : missing r.phase w ≡ length w.tasks = refl in
       let sum = total_set (missing r.phase) s.views id v w at in
       let less : n ≡ (word0 s + 13835058055282163712) % 18446744073709551616 = omega arith in
@@ -252,7 +265,7 @@ module _ {S : Type 0} (events : S → List Event) (registered : ℕ → S → Bo
         subst (λ (z : ℕ × List (ℕ × S)). Rule (stepped s 0 z.0 id z.1 w gives)) (λ k. (less k, sym carried k))
             (given s r id v w x y n (set s.homes 0 (some y)) r.seat at holds (omega arith) (omega arith)
             (omega arith)
-            (inl (set_home events registered count width newest ready (word0 s) r.value y s.homes r.home, omega arith)) (e ∷ [], sent.0)
+            (inl (set_home events registered count width newest replies ready (word0 s) r.value y s.homes r.home, omega arith)) (e ∷ [], sent.0)
             (tail_same (events y)) refl (shown_known (events y) s.words v.tasks (r.rows.each id v at).0) tt refl
             sent.4 (
               omega arith,
@@ -261,7 +274,8 @@ module _ {S : Type 0} (events : S → List Event) (registered : ℕ → S → Bo
                   (did.0, own.1, refl, tt),
             )
             (λ i task other is there. let t = sent.3 task (λ k. other (sym is ∙ ap r.seat k ∙ own.1)) there in
-            (t.0, is, t.1)) is_ready),
+            (t.0, is, t.1)) is_ready
+            (tt, known_fresh events registered replies ready r.begins.begun (events y) (events y) v.tasks, tt)),
         λ y' is. let yy : y ≡ y' = ap (λ (l : List (ℕ × S)). (get_or l 0 (0, y)).1) (sym carried ∙ is) in
             λ k. (with_seen v (events (yy k)), (ap (λ l. carried_after l gives) carried) k),
       )
@@ -270,10 +284,10 @@ module _ {S : Type 0} (events : S → List Event) (registered : ℕ → S → Bo
       → me.1 ≡ (0, y) ∷ [] → IsJoined events registered count width (newest y) me.0.phase x y → count y < 4294967296
       → ready me.0.phase y
       → Allows Rule slots id me 0 (λ n. (n + (2 ^ 64 - 4611686018427387903)) % 2 ^ 64)
-      (joined events registered width newest ready (step slots 0 4611686018427387903 0 none) me)
+      (joined events registered width newest replies ready (step slots 0 4611686018427387903 0 none) me)
   joins slots id me x y some_task holds carried new few_y is_ready s r _ at small =
       let v : H = me.0 in
-      let f = fits_as events registered count width newest ready s r id v (Holder x) at holds in
+      let f = fits_as events registered count width newest replies ready s r id v (Holder x) at holds in
       let same : x ≡ r.value = f.2 in
       let t : ℕ = newest y in
       let es : List Event = sent_in t (get_or s.words (32 + 8 * t) 0) in
@@ -281,8 +295,8 @@ module _ {S : Type 0} (events : S → List Event) (registered : ℕ → S → Bo
       let seat' : ℕ → ℕ = put r.seat t id in
       let n : ℕ = total (missing r.phase) s.views in
       let is_word = held_word s r f.1 in
-      let few_n = few events registered count width newest ready s r in
-      let mv : missing r.phase v ≡ length v.tasks = missing_as events registered count width newest ready v (Holder x) r.phase holds in
+      let few_n = few events registered count width newest replies ready s r in
+      let mv : missing r.phase v ≡ length v.tasks = missing_as events registered count width newest replies ready v (Holder x) r.phase holds in
       let mw : missing r.phase w ≡ suc (length v.tasks) = refl in
       let sum = total_set (missing r.phase) s.views id v w at in
       let less : n + 1 ≡ (word0 s + 13835058055282163713) % 18446744073709551616 = omega arith in
@@ -297,7 +311,7 @@ module _ {S : Type 0} (events : S → List Event) (registered : ℕ → S → Bo
         subst (λ (z : ℕ × List (ℕ × S)). Rule (stepped s 0 z.0 id z.1 w gives)) (λ k. (less k, sym carried k))
             (given s r id v w x y (n + 1) (set s.homes 0 (some y)) seat' at holds (omega arith) few_y
             (omega arith)
-            (inl (set_home events registered count width newest ready (word0 s) r.value y s.homes r.home, omega arith)) new.0
+            (inl (set_home events registered count width newest replies ready (word0 s) r.value y s.homes r.home, omega arith)) new.0
             (tail_on v.seen (events x) (events y) (subst (λ (z : S). IsTail v.seen (events z)) (sym same)
             (r.each id v at).0.0) new.0) refl (refl, (r.rows.each id v at).0) tt refl new.6 (
               omega arith,
@@ -306,12 +320,13 @@ module _ {S : Type 0} (events : S → List Event) (registered : ℕ → S → Bo
                 new.3,
                 put_here r.seat t id,
                 new.4,
-                each_moves events registered count width newest ready r.seat seat' x y id v.tasks
+                each_moves events registered count width newest replies ready r.seat seat' x y id v.tasks
                     (λ task is there. others id task is there)
                     (subst (λ (z : S). Ok r.seat z id v.tasks) (sym same) f.4),
               ),
             )
-            (λ i task other is there. others i task is there) is_ready),
+            (λ i task other is there. others i task is there) is_ready
+            (tt, ((λ e. absurd (false≢true e)), (r.begins.each id v at).1), tt)),
         λ y' is. let c : (0, y) ∷ [] ≡ (0, y') ∷ [] = sym carried ∙ is in
             let yy : y ≡ y' = ap (λ (l : List (ℕ × S)). (get_or l 0 (0, y)).1) c in (
               es,
@@ -332,15 +347,15 @@ module _ {S : Type 0} (events : S → List Event) (registered : ℕ → S → Bo
       → me.0.role ≡ Holder x → me.1 ≡ (0, y) ∷ [] → IsLeft events registered count width c.task x y
       → ready me.0.phase y
       → Allows Rule slots id me 0 (λ n. (n + (2 ^ 64 - 4611686018427387905)) % 2 ^ 64)
-      (left events registered width newest ready (step slots 0 4611686018427387905 0 none) me)
+      (left events registered width newest replies ready (step slots 0 4611686018427387905 0 none) me)
   leaves slots id me c x y one holds carried gone is_ready s r _ at small =
       let v : H = me.0 in
-      let f = fits_as events registered count width newest ready s r id v (Holder x) at holds in
+      let f = fits_as events registered count width newest replies ready s r id v (Holder x) at holds in
       let same : x ≡ r.value = f.2 in
       let n : ℕ = total (missing r.phase) s.views in
       let is_word = held_word s r f.1 in
-      let few_n = few events registered count width newest ready s r in
-      let mv : missing r.phase v ≡ 1 = missing_as events registered count width newest ready v (Holder x) r.phase holds ∙ ap length one in
+      let few_n = few events registered count width newest replies ready s r in
+      let mv : missing r.phase v ≡ 1 = missing_as events registered count width newest replies ready v (Holder x) r.phase holds ∙ ap length one in
       let most = total_at (missing r.phase) s.views id v at in
       let own = subst (λ (cs : List SeatedTask). Ok r.seat r.value id cs) one f.4 in
       let less : n - 1 ≡ (word0 s + 13835058055282163711) % 18446744073709551616 = omega arith in
@@ -370,7 +385,8 @@ module _ {S : Type 0} (events : S → List Event) (registered : ℕ → S → Bo
         subst (λ (z : ℕ). Rule (stepped s 0 z id me.1 w keeps)) less
             (given s r id v w x y (n - 1) s.homes r.seat at holds (omega arith) (omega arith) (omega arith)
             (inr (out, inl (omega arith))) gone.0 seen refl tt (beside s.words 0 (n - 1) (omega arith)) refl gone.4
-            (f.0, omega arith, refl, f.3, tt) moves is_ready),
+            (f.0, omega arith, refl, f.3, tt) moves is_ready
+            (tt, tt, below_folds s.words 0 (n - 1) (omega arith))),
         λ y' is. (
           (λ _. let yy = whose y' is in (s.words, λ k. (without_tasks v (Last (yy k) s.words) (events (yy k)), is k), r.wide)),
           λ not. absurd (not last),
@@ -386,9 +402,9 @@ module _ {S : Type 0} (events : S → List Event) (registered : ℕ → S → Bo
         subst (λ (z : ℕ × List (ℕ × S)). Rule (stepped s 0 z.0 id z.1 w gives)) (λ k. (less k, sym carried k))
             (given s r id v w x y (n - 1) (set s.homes 0 (some y)) r.seat at holds (omega arith) (omega arith)
             (omega arith)
-            (inl (set_home events registered count width newest ready (word0 s) r.value y s.homes r.home, omega arith)) gone.0 seen refl tt tt refl
+            (inl (set_home events registered count width newest replies ready (word0 s) r.value y s.homes r.home, omega arith)) gone.0 seen refl tt tt refl
             gone.4
-            (omega arith, refl) moves is_ready),
+            (omega arith, refl) moves is_ready (tt, tt, tt)),
         λ y' is. (
           (λ last. absurd (more last)),
           λ _. let yy = whose y' is in

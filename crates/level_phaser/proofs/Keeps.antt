@@ -11,11 +11,14 @@ use Rattle.level_phaser.specs.declared.view.SeatedTask.{SeatedTask}
 use Rattle.level_phaser.specs.declared.view.Role.{Role}
 use Rattle.level_phaser.specs.declared.view.Role.TheVariants.{Stands, Came, Last, Holder, Gone}
 use Rattle.phase_model.specs.declared.history.Event.{Event}
+use Rattle.phase_model.specs.declared.call.Call.{Call}
+use Rattle.phase_model.specs.Replies.{Reply}
 use Rattle.told_history.specs.Tails.{IsTail}
 use Rattle.level_phaser.specs.Deeds.{deeds_of}
 use Rattle.level_phaser.specs.Seen.{AreSeated}
 use Rattle.level_phaser.specs.inner.Board.{busy, total, parts_of, missing_in, missing, Each, FitsIn, Fits, Homes, IsLevel}
 use Rattle.level_phaser.specs.inner.Board.{Rows}
+use Rattle.level_phaser.specs.inner.Folds.{Begins}
 use Rattle.level_phaser.proofs.Totals.{total_set}
 
 pub tail_on : (a b c : List Event) → IsTail a b → IsTail b c → IsTail a c
@@ -61,7 +64,7 @@ put_else f i c j other = go (ℕ_discrete j i)
     go (yes e) = absurd (other e)
     go (no _) = refl
 
-module _ {S : Type 0} (events : S → List Event) (registered : ℕ → S → Bool) (count : S → ℕ) (width : S → ℕ) (newest : S → ℕ)
+module _ {S : Type 0} (events : S → List Event) (registered : ℕ → S → Bool) (count : S → ℕ) (width : S → ℕ) (newest : S → ℕ) (replies : S → Call → Reply)
     (ready : ℕ → S → Type 0) where
   abbrev H : Type 0
   H = SeatView S
@@ -73,7 +76,7 @@ module _ {S : Type 0} (events : S → List Event) (registered : ℕ → S → Bo
   Mine = Me S H
 
   abbrev Rule : St → Type 0
-  Rule = IsLevel events registered count width ready
+  Rule = IsLevel events registered count width replies ready
 
   abbrev Ok : (ℕ → ℕ) → S → ℕ → List SeatedTask → Type 0
   Ok = Each events registered count width ready
@@ -102,9 +105,10 @@ module _ {S : Type 0} (events : S → List Event) (registered : ℕ → S → Bo
       → ((i : ℕ) (h : H) → i ≢ id → get_elem? s.views i ≡ some h
       → Fit seat phase (get_or words 0 0) value holder i h)
       → ready phase value → Rows (width value) words (set s.views id w)
+      → Begins events registered replies ready width phase words (set s.views id w) value
       → Rule record { words = words; homes = homes; views = set s.views id w }
   after s r words homes id v w phase value holder seat held at wide parts small word over home mine others
-      stands rows = record {
+      stands rows begins = record {
         phase = phase;
         value = value;
         holder = holder;
@@ -123,6 +127,7 @@ module _ {S : Type 0} (events : S → List Event) (registered : ℕ → S → Bo
             z.1) (λ k. (sym t.0 k, t.1 k)) mine)
             (λ (t : (i ≢ id) × (get_elem? s.views i ≡ some h)). others i h t.0 t.1) (at_set s.views id i w h e);
         rows = rows;
+        begins = begins;
         stands = stands;
       }
 

@@ -1,5 +1,7 @@
 mod Answered
+mod Begins
 mod Coming
+mod Foldings
 mod Holding
 mod Joins
 mod Keeps

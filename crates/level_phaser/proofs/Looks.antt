@@ -1,6 +1,7 @@
 -- Who stand in one phase see the same.
-use Rattle.std.proofs.Common.{◌≡◌, ℕ, Bool, true, false, cond, nat_lt, ◌∷◌, length, Some, None, refl, ap, sym, ◌∙◌, ℤ, Result}
-use Rattle.std.proofs.lemmas.Bool.{and_parts}
+use Rattle.std.proofs.Common.{◌≡◌, ℕ, List, Bool, true, false, cond, nat_lt, ◌∷◌, length, Some, None, refl, ap, sym, ◌∙◌, ℤ, Result}
+use Rattle.std.proofs.lemmas.Bool.{and_parts, and_from}
+use Rattle.std.specs.Option.{option_map_or}
 use Rattle.phase_modes.specs.declared.refusal.Refusal.{Refusal}
 use Rattle.phase_modes.specs.declared.refusal.Refusal.TheVariants.{NotRegistered, NoWait, NoAccumulator, NoPhaseYet}
 use Rattle.phase_modes.specs.Mode.{can_wait}
@@ -13,7 +14,8 @@ use Rattle.phase_model.specs.Phases.{waits}
 use Rattle.phase_model.specs.Rules.{Story, has_room, look_of}
 use Rattle.phase_model.specs.Replies.{decided, reply}
 use Rattle.phase_model.specs.Answers.{look_result}
-use Rattle.level_phaser.specs.RoundLaws.{can_look, LevelLooks}
+use Rattle.level_phaser.specs.RoundLaws.{can_look, LevelLooks, StandLevel}
+use Rattle.level_phaser.proofs.LevelTasks.{level_by}
 
 -- what a look answers, by its parts
 abbrev looked : Bool → Bool → Bool → Bool → Bool → ℕ → ℕ → Look ℤ → Result (Look ℤ) Refusal
@@ -50,3 +52,15 @@ level_looks s t u a may too same =
     ∙ (unnamed (nat_lt a (length s.terms.ops)) (nat_lt 0 w) (has_room s.limits (Looked 0 a Nothing ∷ s.past)) t u a
     (look_of s.terms.ops a w s.past)
     ∙ sym (as_looked s u a w too refl))
+
+-- so do all that stand level
+pub level_alike : (p : ℕ) (ts : List ℕ) (s : Story) (t u a : ℕ) → StandLevel p ts s → is_live t s.past ≡ true
+    → is_live u s.past ≡ true → look_result (reply s (look t a)) ≡ look_result (reply s (look u a))
+level_alike p ts s t u a stand live live' =
+    let h = s.past in
+    let x = level_by p ts s stand.level t (stand.all t live) in
+    let y = level_by p ts s stand.level u (stand.all u live') in
+    level_looks s t u a
+    (and_from (is_live t h) (has_mode can_wait t h) x.live (ap (λ o. option_map_or can_wait o false) x.mode))
+    (and_from (is_live u h) (has_mode can_wait u h) y.live (ap (λ o. option_map_or can_wait o false) y.mode))
+    (x.turns ∙ sym y.turns)

@@ -12,11 +12,14 @@ use Rattle.level_phaser.specs.declared.view.Deeds.{Deeds}
 use Rattle.level_phaser.specs.declared.view.Role.{Role}
 use Rattle.level_phaser.specs.declared.view.Role.TheVariants.{Stands, Came, Last, Holder, Gone}
 use Rattle.phase_model.specs.declared.history.Event.{Event}
-use Rattle.level_phaser.specs.Views.{seated, signalled, showing, with_pending}
+use Rattle.phase_model.specs.declared.call.Call.{Call}
+use Rattle.phase_model.specs.Replies.{Reply}
+use Rattle.level_phaser.specs.Views.{seated_as, signalled, showing, with_pending}
 use Rattle.level_phaser.specs.inner.Board.{busy, missing, sent_in, accumulator_in, IsSound, Shown, IsFound, Knows, Each, FitsIn, Fits, Homes, IsLevel}
 use Rattle.level_phaser.specs.inner.Plays.{showed, found}
 use Rattle.level_phaser.proofs.Totals.{total_set, total_at}
-use Rattle.level_phaser.proofs.Keeps.{after, fits_as, missing_as, unmoved}
+use Rattle.level_phaser.proofs.Begins.{above_folds, begins_on, began_standing, showing_fresh}
+use Rattle.level_phaser.proofs.Keeps.{tail_same, after, fits_as, missing_as, unmoved}
 
 pub sound_more : (a b n : ℕ) → a ≤ b → IsSound a n → IsSound b n
 sound_more a b zero most k = tt
@@ -51,7 +54,7 @@ shown_else seat words task n i other (c ∷ cs) of k = (
     same_row a b e = omega arith
 
 module _ {S : Type 0} (events : S → List Event) (registered : ℕ → S → Bool) (count : S → ℕ) (width : S → ℕ)
-    (newest : S → ℕ) (ready : ℕ → S → Type 0) where
+    (newest : S → ℕ) (replies : S → Call → Reply) (ready : ℕ → S → Type 0) where
   abbrev H : Type 0
   H = SeatView S
 
@@ -62,7 +65,7 @@ module _ {S : Type 0} (events : S → List Event) (registered : ℕ → S → Bo
   Mine = Me S H
 
   abbrev Rule : St → Type 0
-  Rule = IsLevel events registered count width ready
+  Rule = IsLevel events registered count width replies ready
 
   abbrev Ok : (ℕ → ℕ) → S → ℕ → List SeatedTask → Type 0
   Ok = Each events registered count width ready
@@ -112,15 +115,15 @@ module _ {S : Type 0} (events : S → List Event) (registered : ℕ → S → Bo
   each_showing seat x i es [] k = tt
   each_showing seat x i es (c ∷ cs) k = (k.0, k.1, k.2, each_showing seat x i es cs k.3)
 
-  pub puts : (slots id task : ℕ) (me : Mine) (d : Deeds) (es : List Event) (new : ℕ) → task < 256
-      → me.0.tasks ≡ seated task d es ∷ [] → me.0.role ≡ Stands → IsSound me.0.width new
+  pub puts : (slots id task : ℕ) (me : Mine) (d : Deeds) (es : List Event) (fresh : Bool) (new : ℕ) → task < 256
+      → me.0.tasks ≡ seated_as task d es fresh ∷ [] → me.0.role ≡ Stands → IsSound me.0.width new
       → Allows Rule slots id me (32 + 8 * task) (λ _. new)
-      (λ _. showed events registered width newest ready (step slots (32 + 8 * task) new 0 none) me new)
-  puts slots id task me d es new low one stands sound s r _ at _ =
+      (λ _. showed events registered width newest replies ready (step slots (32 + 8 * task) new 0 none) me new)
+  puts slots id task me d es fresh new low one stands sound s r _ at _ =
       let v : H = me.0 in
       let w : H = with_pending v (sent_in task new) in
       let k = r.rows.each id v at in
-      let level = fits_as events registered count width newest ready s r id v Stands at stands in
+      let level = fits_as events registered count width newest replies ready s r id v Stands at stands in
       let ws : List ℕ = set s.words (32 + 8 * task) new in
       let same0 : get_or ws 0 0 ≡ get_or s.words 0 0 =
       get_or-set_other s.words (32 + 8 * task) 0 new 0 (λ e. absurd (omega arith)) in
@@ -130,19 +133,19 @@ module _ {S : Type 0} (events : S → List Event) (registered : ℕ → S → Bo
       (let wide = r.wide in omega arith) in
       let lv : length v.tasks ≡ 1 = ap length one in
       let lw : length w.tasks ≡ length v.tasks = length_showing (sent_in task new) v.tasks in
-      let mv : missing r.phase v ≡ length v.tasks = missing_as events registered count width newest ready v Stands r.phase stands in
-      let mw : missing r.phase w ≡ length w.tasks = missing_as events registered count width newest ready w Stands r.phase stands in
+      let mv : missing r.phase v ≡ length v.tasks = missing_as events registered count width newest replies ready v Stands r.phase stands in
+      let mw : missing r.phase w ≡ length w.tasks = missing_as events registered count width newest replies ready w Stands r.phase stands in
       let sum = total_set (missing r.phase) s.views id v w at in
       let most = total_at (missing r.phase) s.views id v at in
       let word = r.word in
       let missed : 0 < get_or s.words 0 0 = omega arith in
-      let tw : w.tasks ≡ seated task d (sent_in task new) ∷ [] = ap (showing (sent_in task new)) one in
+      let tw : w.tasks ≡ seated_as task d (sent_in task new) fresh ∷ [] = ap (showing (sent_in task new)) one in
       let own = subst (λ (cs : List SeatedTask). Ok r.seat r.value id cs) one level.2 in
       let parts = r.parts in (
         w,
         keeps,
         tt,
-        after events registered count width newest ready s r ws s.homes id v w r.phase r.value r.holder r.seat
+        after events registered count width newest replies ready s r ws s.homes id v w r.phase r.value r.holder r.seat
             r.held at (length-set s.words (32 + 8 * task) new ∙ r.wide) (omega arith) r.small
             (same0 ∙ word ∙ ap (λ (z : ℕ). z + (if r.held then busy else 0)) (omega arith))
             (subst (λ (z : ℕ). z ≤ r.phase) (sym same16) r.over)
@@ -176,22 +179,26 @@ module _ {S : Type 0} (events : S → List Event) (registered : ℕ → S → Bo
                     q.2,
                   )))
                   (at_set s.views id i w h e);
-            },
+            }
+            (begins_on events registered replies ready width r.phase s.words ws s.views id w r.value r.value
+            (above_folds s.words (32 + 8 * task) new (omega arith)) (λ _. missed) (tail_same (events r.value)) refl
+            r.begins (began_standing events registered replies ready r.begins.begun r.phase w.phase ws w.role w.tasks w.seen stands
+            (showing_fresh events registered replies ready r.begins.begun v.seen (sent_in task new) v.tasks (r.begins.each id v at).1))),
         λ task' is. let t : task ≡ task' = omega arith in
             λ j. (with_pending v (sent_in (t j) new), me.1),
       )
 
   pub finds : (slots id task : ℕ) (me : Mine) → Allows Rule slots id me (32 + 8 * task) (λ x. x)
-      (found events registered width newest ready (step slots (32 + 8 * task) 0 0 none) me)
+      (found events registered width newest replies ready (step slots (32 + 8 * task) 0 0 none) me)
   finds slots id task me s r _ at _ = (
     me.0,
     keeps,
     tt,
-    unmoved events registered count width newest ready s r (32 + 8 * task) id me.0 at,
+    unmoved events registered count width newest replies ready s r (32 + 8 * task) id me.0 at,
     (
       refl,
       λ x ws last.
-          let f = fits_as events registered count width newest ready s r id me.0 (Last x ws) at last in
+          let f = fits_as events registered count width newest replies ready s r id me.0 (Last x ws) at last in
           let k = subst (λ (z : Role S). IsFound s.words z) last (r.rows.each id me.0 at).1 in
           (k task, subst (λ (z : S). IsSound (width z) (get_or s.words (32 + 8 * task) 0)) (sym f.2) (r.rows.sound task)),
     ),

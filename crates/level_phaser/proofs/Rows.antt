@@ -65,6 +65,14 @@ rows_clear words items n is begun t =
     (λ beyond. beyond_last (replicate n 0) (32 + 8 * t) (subst (λ (k : ℕ). k ≤ 32 + 8 * t) (sym (length-replicate n 0)) beyond))
     (λ inside. get_or-replicate n (32 + 8 * t) 0 0 (omega arith))
 
+-- nor any other word that is set
+pub others_clear : (words items : List ℕ) (n : ℕ) → words ≡ set items 0 1 → items ≡ replicate n 0 → (i : ℕ) → 0 < i
+    → i < n → get_or words i 0 ≡ 0
+others_clear words items n is begun i above inside =
+    ap (λ (ws : List ℕ). get_or ws i 0) (is ∙ ap (λ (ws : List ℕ). set ws 0 1) begun)
+    ∙ get_or-set_other (replicate n 0) 0 i 1 0 (λ e. absurd (omega arith))
+    ∙ get_or-replicate n i 0 0 inside
+
 pub at_snoc : {A : Type 0} (l : List A) (a b : A) (j : ℕ) → get_elem? (l ++ a ∷ []) j ≡ some b
     → (get_elem? l j ≡ some b) ⊎ ((j ≡ length l) × (a ≡ b))
 at_snoc [] a b zero e = inr (refl, some-injective a b e)

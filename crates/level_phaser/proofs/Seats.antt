@@ -1,5 +1,5 @@
 -- A seat that is cut or joined, and the table at the start, keep the rule of the table.
-use Rattle.std.proofs.Common.{◌*◌, ◌≡◌, ◌≢◌, ⊎_elim, inl, inr, ℕ, zero, suc, ◌+◌, ◌<◌, ◌≤◌, List, [], ◌∷◌, ◌++◌, Bool, true, false, map, length, get_or, set, sym, refl, ap, ◌∙◌, subst, arith, length-set, if◌then◌else◌}
+use Rattle.std.proofs.Common.{ℤ, Some, None, ◌*◌, ◌≡◌, ◌≢◌, ⊎_elim, inl, inr, ℕ, zero, suc, ◌+◌, ◌<◌, ◌≤◌, List, [], ◌∷◌, ◌++◌, Bool, true, false, map, length, get_or, set, sym, refl, ap, ◌∙◌, subst, arith, length-set, if◌then◌else◌}
 use mathlib.Core.Option.{Option, some, none, some-ne-none, some-injective}
 use mathlib.Core.List.{append-nil}
 use lib.ListN.{get_elem?}
@@ -10,6 +10,8 @@ use Rattle.level_phaser.specs.declared.view.SeatedTask.{SeatedTask}
 use Rattle.level_phaser.specs.declared.view.Role.{Role}
 use Rattle.level_phaser.specs.declared.view.Role.TheVariants.{Stands, Came, Last, Holder, Gone}
 use Rattle.phase_model.specs.declared.history.Event.{Event}
+use Rattle.phase_model.specs.declared.call.Call.{Call}
+use Rattle.phase_model.specs.Replies.{Reply}
 use Rattle.told_history.specs.Tails.{IsTail}
 use Rattle.level_phaser.specs.Deeds.{deeds, deeds_of}
 use Rattle.level_phaser.specs.Views.{signalled, first_view, note_of, told}
@@ -18,15 +20,19 @@ use Rattle.level_phaser.specs.inner.Steps.{head_of, tail_of, first_of, others_of
 use Rattle.level_phaser.specs.inner.Plays.{heeded}
 use Rattle.level_phaser.specs.inner.Board.{sent_in, IsSound, Knows}
 use Rattle.level_phaser.proofs.Rows.{at_snoc, unchanged, shown_head, shown_tail, rows_after, rows_snoc}
+use Rattle.std.proofs.lemmas.Bool.{false≢true}
+use Rattle.phase_model.specs.declared.op.Look.{Look}
+use Rattle.level_phaser.specs.inner.Folds.{fold_in, IsNoted, AreFresh, IsBehind, Began}
+use Rattle.level_phaser.proofs.Begins.{same_folds, begins_on, begins_snoc, begins_cut, began_standing, head_fresh, tail_fresh}
 use Rattle.level_phaser.proofs.Totals.{total_set, total_snoc}
-use Rattle.level_phaser.proofs.Keeps.{put, put_here, put_else, after, fits_as, missing_as, unmoved, each_moves}
+use Rattle.level_phaser.proofs.Keeps.{tail_same, put, put_here, put_else, after, fits_as, missing_as, unmoved, each_moves}
 
 within : {A : Type 0} (l : List A) (i : ℕ) (a : A) → get_elem? l i ≡ some a → i < length l
 within [] i a e = absurd (some-ne-none a (sym e))
 within (x ∷ xs) zero a e = omega arith
 within (x ∷ xs) (suc i) a e = let r = within xs i a e in omega arith
 
-module _ {S : Type 0} (events : S → List Event) (registered : ℕ → S → Bool) (count : S → ℕ) (width : S → ℕ) (newest : S → ℕ)
+module _ {S : Type 0} (events : S → List Event) (registered : ℕ → S → Bool) (count : S → ℕ) (width : S → ℕ) (newest : S → ℕ) (replies : S → Call → Reply)
     (ready : ℕ → S → Type 0) where
   abbrev H : Type 0
   H = SeatView S
@@ -38,7 +44,7 @@ module _ {S : Type 0} (events : S → List Event) (registered : ℕ → S → Bo
   Mine = Me S H
 
   abbrev Rule : St → Type 0
-  Rule = IsLevel events registered count width ready
+  Rule = IsLevel events registered count width replies ready
 
   abbrev Ok : (ℕ → ℕ) → S → ℕ → List SeatedTask → Type 0
   Ok = Each events registered count width ready
@@ -62,7 +68,7 @@ module _ {S : Type 0} (events : S → List Event) (registered : ℕ → S → Bo
       let n : H = first_of v in
       let vs : List H = set s.views id l in
       let fv = r.each id v at in
-      let level = fits_as events registered count width newest ready s r id v Stands at stands in
+      let level = fits_as events registered count width newest replies ready s r id v Stands at stands in
       let end : ℕ = length vs in
       let inside = within s.views id v at in
       let long : length vs ≡ length s.views = length-set s.views id l in
@@ -70,9 +76,9 @@ module _ {S : Type 0} (events : S → List Event) (registered : ℕ → S → Bo
       let tl : l.tasks ≡ b ∷ [] = ap tail_of both in
       let tn : n.tasks ≡ a ∷ [] = ap head_of both in
       let each = subst (λ (cs : List SeatedTask). Ok r.seat r.value id cs) both level.2 in
-      let mv : missing r.phase v ≡ 2 = missing_as events registered count width newest ready v Stands r.phase stands ∙ ap length both in
-      let ml : missing r.phase l ≡ 1 = missing_as events registered count width newest ready l Stands r.phase stands ∙ ap length tl in
-      let mn : missing r.phase n ≡ 1 = missing_as events registered count width newest ready n Stands r.phase stands ∙ ap length tn in
+      let mv : missing r.phase v ≡ 2 = missing_as events registered count width newest replies ready v Stands r.phase stands ∙ ap length both in
+      let ml : missing r.phase l ≡ 1 = missing_as events registered count width newest replies ready l Stands r.phase stands ∙ ap length tl in
+      let mn : missing r.phase n ≡ 1 = missing_as events registered count width newest replies ready n Stands r.phase stands ∙ ap length tn in
       let pv : parts_of v ≡ 2 = ap length both in
       let pl : parts_of l ≡ 1 = ap length tl in
       let pn : parts_of n ≡ 1 = ap length tn in
@@ -139,6 +145,12 @@ module _ {S : Type 0} (events : S → List Event) (registered : ℕ → S → Bo
         rows = (let k = r.rows.each id v at in rows_snoc (width r.value) s.words vs n
             (rows_after (width r.value) s.words s.words s.views id l (unchanged s.words) r.rows
             (shown_tail s.words v.tasks k.0, k.1, k.2)) (shown_head s.words v.tasks k.0, k.1, k.2));
+        begins = (let k = r.begins.each id v at in
+            begins_cut events registered replies ready width r.phase s.words s.views id l n r.value r.begins
+            (began_standing events registered replies ready r.begins.begun r.phase v.phase s.words v.role
+            l.tasks v.seen stands (tail_fresh events registered replies ready r.begins.begun v.seen v.tasks k.1))
+            (began_standing events registered replies ready r.begins.begun r.phase v.phase s.words v.role
+            n.tasks v.seen stands (head_fresh events registered replies ready r.begins.begun v.seen v.tasks k.1)));
         stands = r.stands;
       }
     where
@@ -148,18 +160,18 @@ module _ {S : Type 0} (events : S → List Event) (registered : ℕ → S → Bo
           × (seat' task ≡ i) × (deeds_of task (events x) ≡ deeds_of task (events x)))
           → Suits seat role tasks at phase word x holder i → Suits seat' role tasks at phase word x holder i
       kept_role seat seat' Stands tasks at phase word x holder i moves f =
-          (f.0, f.1, each_moves events registered count width newest ready seat seat' x x i tasks moves f.2)
+          (f.0, f.1, each_moves events registered count width newest replies ready seat seat' x x i tasks moves f.2)
       kept_role seat seat' Came tasks at phase word x holder i moves f = (
         f.0,
         ⊎_elim
-            (λ (e : (at ≡ phase) × Ok seat x i tasks). inl (e.0, each_moves events registered count width newest ready seat seat' x x i tasks moves e.1))
+            (λ (e : (at ≡ phase) × Ok seat x i tasks). inl (e.0, each_moves events registered count width newest replies ready seat seat' x x i tasks moves e.1))
             (λ (e : (at + 1 ≡ phase) × Ok seat x i (signalled tasks)). inr
-            (e.0, each_moves events registered count width newest ready seat seat' x x i (signalled tasks) moves e.1)) f.1,
+            (e.0, each_moves events registered count width newest replies ready seat seat' x x i (signalled tasks) moves e.1)) f.1,
       )
       kept_role seat seat' (Last u us) tasks at phase word x holder i moves f =
-          (f.0, f.1, f.2, f.3, each_moves events registered count width newest ready seat seat' x x i tasks moves f.4)
+          (f.0, f.1, f.2, f.3, each_moves events registered count width newest replies ready seat seat' x x i tasks moves f.4)
       kept_role seat seat' (Holder u) tasks at phase word x holder i moves f =
-          (f.0, f.1, f.2, f.3, each_moves events registered count width newest ready seat seat' x x i tasks moves f.4)
+          (f.0, f.1, f.2, f.3, each_moves events registered count width newest replies ready seat seat' x x i tasks moves f.4)
       kept_role seat seat' Gone tasks at phase word x holder i moves f = f
 
   at_most : (seat : ℕ → ℕ) (role : Role S) (tasks : List SeatedTask) (at phase word : ℕ) (value : S)
@@ -172,6 +184,13 @@ module _ {S : Type 0} (events : S → List Event) (registered : ℕ → S → Bo
   at_most seat (Holder x) tasks at phase word value holder i f = let q = f.0 in omega arith
   at_most seat Gone tasks at phase word value holder i f = f.0
 
+  -- a seat of no task is in no phase
+  began_gone : (b : S) (phase at : ℕ) (words : List ℕ) (role : Role S) (cs : List SeatedTask) (seen : List Event)
+      → role ≡ Gone → cs ≡ [] → IsBehind events registered replies ready b role cs at phase seen × AreFresh events registered replies ready b seen cs × IsNoted words role
+  began_gone b phase at words role cs seen gone none_of =
+      subst (λ (z : Role S × List SeatedTask). IsBehind events registered replies ready b z.0 z.1 at phase seen × AreFresh events registered replies ready b seen z.1
+      × IsNoted words z.0) (λ k. (sym gone k, sym none_of k)) (tt, tt, tt)
+
   -- a seat of no task may come at any time
   appended : (s : St) (r : Rule s) (n : H) → n.role ≡ Gone → n.tasks ≡ [] → IsTail n.seen (events r.value)
       → n.heard ≤ r.phase → n.phase ≤ r.phase → Knows (width r.value) s.words n
@@ -180,7 +199,7 @@ module _ {S : Type 0} (events : S → List Event) (registered : ℕ → S → Bo
       let p = total_snoc parts_of s.views n in
       let m = total_snoc (missing r.phase) s.views n in
       let pn : parts_of n ≡ 0 = ap length none_of in
-      let mn : missing r.phase n ≡ 0 = missing_as events registered count width newest ready n Gone r.phase gone in
+      let mn : missing r.phase n ≡ 0 = missing_as events registered count width newest replies ready n Gone r.phase gone in
       let q = r.parts in
       record {
         phase = r.phase;
@@ -203,6 +222,8 @@ module _ {S : Type 0} (events : S → List Event) (registered : ℕ → S → Bo
             ))
             (at_snoc s.views n h i e);
         rows = rows_snoc (width r.value) s.words s.views n r.rows knows;
+        begins = begins_snoc events registered replies ready width r.phase s.words s.views n r.value r.begins
+            (began_gone r.begins.begun r.phase n.phase s.words n.role n.tasks n.seen gone none_of);
         stands = r.stands;
       }
 
@@ -218,14 +239,17 @@ module _ {S : Type 0} (events : S → List Event) (registered : ℕ → S → Bo
   viewed : (s : St) (r : Rule s) (id : ℕ) (v w : H) → get_elem? s.views id ≡ some v
       → length w.tasks ≡ length v.tasks → missing r.phase w ≡ missing r.phase v
       → Fit r.seat r.phase (word0 s) r.value r.holder id w → Knows (width r.value) s.words w
+      → Began events registered replies ready r.begins.begun r.phase s.words w
       → Rule record { words = s.words; homes = s.homes; views = set s.views id w }
-  viewed s r id v w at tasks same fit knows =
+  viewed s r id v w at tasks same fit knows began =
       let sum = total_set (missing r.phase) s.views id v w at in
       let p = r.parts in
-      after events registered count width newest ready s r s.words s.homes id v w r.phase r.value r.holder r.seat r.held at r.wide (omega arith) r.small
+      after events registered count width newest replies ready s r s.words s.homes id v w r.phase r.value r.holder r.seat r.held at r.wide (omega arith) r.small
       (r.word ∙ ap (λ (z : ℕ). z + (if r.held then busy else 0)) (omega arith)) r.over r.home fit
       (λ i h other e. r.each i h e) r.stands
       (rows_after (width r.value) s.words s.words s.views id w (unchanged s.words) r.rows knows)
+      (begins_on events registered replies ready width r.phase s.words s.words s.views id w r.value r.value (same_folds s.words) (λ m. m)
+      (tail_same (events r.value)) refl r.begins began)
 
   pub hears : (id : ℕ) (v : H) (other : ℕ) (w : H) → w.role ≡ Gone → w.tasks ≡ []
       → Joins Rule id v other w (told v w) spent
@@ -233,25 +257,26 @@ module _ {S : Type 0} (events : S → List Event) (registered : ℕ → S → Bo
       let at_w : get_elem? s.views other ≡ some w = sym (set_else s.views id other (told v w) apart)
       ∙ there_w in
       let ew = r.each other w at_w in
-      let fw = fits_as events registered count width newest ready s r other w Gone at_w gone in
+      let fw = fits_as events registered count width newest replies ready s r other w Gone at_w gone in
       let ev = r.each id v at in
       let r2 : Rule record { words = s.words; homes = s.homes; views = set s.views id (told v w) } =
-      viewed s r id v (told v w) at refl refl ((ev.0.0, fw.0), ev.1) (r.rows.each id v at) in
+      viewed s r id v (told v w) at refl refl ((ev.0.0, fw.0), ev.1) (r.rows.each id v at)
+      (r.begins.each id v at) in
       let ph = r2.phase in
       viewed record { words = s.words; homes = s.homes; views = set s.views id (told v w) } r2 other w spent
-      there_w (sym (ap length none_of)) (sym (missing_as events registered count width newest ready w Gone r2.phase gone))
-      (((events r2.value, sym (append-nil (events r2.value))), omega arith), (omega arith, refl)) (tt, tt, omega arith)
+      there_w (sym (ap length none_of)) (sym (missing_as events registered count width newest replies ready w Gone r2.phase gone))
+      (((events r2.value, sym (append-nil (events r2.value))), omega arith), (omega arith, refl)) (tt, tt, omega arith) (tt, tt, tt)
 
   pub heeds : (slots id : ℕ) (me : Mine) → Allows Rule slots id me 0 (λ x. x)
-      (heeded events registered width newest ready (step slots 0 0 0 none) me)
+      (heeded events registered width newest replies ready (step slots 0 0 0 none) me)
   heeds slots id me s r _ at _ = (
     me.0,
     keeps,
     tt,
-    unmoved events registered count width newest ready s r 0 id me.0 at,
+    unmoved events registered count width newest replies ready s r 0 id me.0 at,
     (
       refl,
-      λ stands. let f = fits_as events registered count width newest ready s r id me.0 Stands at stands in let q = f.1 in
+      λ stands. let f = fits_as events registered count width newest replies ready s r id me.0 Stands at stands in let q = f.1 in
           let h = (r.each id me.0 at).0.1 in omega arith,
     ),
   )
@@ -260,8 +285,9 @@ module _ {S : Type 0} (events : S → List Event) (registered : ℕ → S → Bo
       → get_or words 0 0 ≡ 1 → get_or words 16 0 ≡ 0 → slots ≡ value ∷ [] → registered task value ≡ true
       → deeds_of task (events value) ≡ deeds 0 [] → count value ≡ 1 → ready 0 value
       → wide_is ≡ width value → ((t : ℕ) → get_or words (32 + 8 * t) 0 ≡ 0)
+      → ((t : ℕ) → t < 4 → get_or words (24 + t) 0 ≡ 0) → width value ≤ 4
       → Rule (opening words slots (first_view task wide_is))
-  starts words slots task value wide_is wide one zero_over is is_there blank counts is_ready is_wide clear = record {
+  starts words slots task value wide_is wide one zero_over is is_there blank counts is_ready is_wide clear blank_folds narrow = record {
     phase = 0;
     value = value;
     holder = 0;
@@ -278,6 +304,15 @@ module _ {S : Type 0} (events : S → List Event) (registered : ℕ → S → Bo
       sound = λ t. subst (λ (n : ℕ). IsSound (width value) n) (sym (clear t)) tt;
       each = λ i h e. known i h e;
     };
+    begins = record {
+      begun = value;
+      stood = is_ready;
+      longer = tail_same (events value);
+      wide = refl;
+      narrow = narrow;
+      folds = λ _ a l low is. absurd (none_some l (sym (ap fold_in (blank_folds a (omega arith))) ∙ is));
+      each = λ i h e. begun i h e;
+    };
     stands = is_ready;
   }
     where
@@ -289,6 +324,15 @@ module _ {S : Type 0} (events : S → List Event) (registered : ℕ → S → Bo
             (omega arith, refl, (is_there, refl, blank, tt)),
           )
       first (suc i) h e = absurd (some-ne-none h (sym e))
+
+      none_some : (l : Look ℤ) → None ≡ Some l → ⊥
+      none_some l e = cc
+
+      begun : (i : ℕ) (h : H) → get_elem? (first_view task wide_is ∷ []) i ≡ some h
+          → Began events registered replies ready value 0 words h
+      begun zero h e = subst (λ (z : H). Began events registered replies ready value 0 words z) (some-injective (first_view task wide_is) h e)
+          (tt, ((λ e. absurd (false≢true e)), tt), tt)
+      begun (suc i) h e = absurd (some-ne-none h (sym e))
 
       known : (i : ℕ) (h : H) → get_elem? (first_view task wide_is ∷ []) i ≡ some h → Knows (width value) words h
       known zero h e = subst (λ (z : H). Knows (width value) words z) (some-injective (first_view task wide_is) h e)

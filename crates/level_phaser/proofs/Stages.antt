@@ -1,5 +1,5 @@
 -- Where a task stands, as its thread has it.
-use Rattle.std.proofs.Common.{◌<◌, ◌≤◌, ◌≡◌, ◌≢◌, ℕ, List, [], ◌∷◌, get_or, Bool, true, false, true≢false, sym, ap, ◌∙◌, subst}
+use Rattle.std.proofs.Common.{Option, Some, None, IfSome, refl, ◌<◌, ◌≤◌, ◌≡◌, ◌≢◌, ℕ, List, [], ◌∷◌, get_or, Bool, true, false, true≢false, sym, ap, ◌∙◌, subst}
 use Rattle.atomic_table.specs.Table.{Me, rest}
 use Rattle.phase_model.specs.declared.history.Event.{Event}
 use Rattle.level_phaser.specs.Changes.{IsSent}
@@ -7,18 +7,19 @@ use Rattle.level_phaser.specs.declared.view.SeatView.{SeatView}
 use Rattle.level_phaser.specs.declared.view.Role.TheVariants as role
 use Rattle.level_phaser.specs.declared.stage.Stage.{Stage}
 use Rattle.level_phaser.specs.declared.stage.Stage.TheVariants.{Stands}
-use Rattle.level_phaser.specs.Views.{pending_in, seated}
+use Rattle.level_phaser.specs.Views.{pending_in, fresh_in, seated_as}
 use Rattle.level_phaser.specs.inner.Steps.{InStage, deeds_in}
 
 -- a task that stands has a seat that stands
 module _ {S : Type 0} where
-  pub stood : (stage : Stage) (task phase width : ℕ) (is_shown : Bool) (me : Me S (SeatView S)) → stage ≡ Stands
-      → InStage stage task phase width is_shown me
-      → (me.0.tasks ≡ seated task (deeds_in me.0.tasks) (pending_in me.0.tasks) ∷ []) × (me.0.phase ≡ phase)
+  pub stood : (stage : Stage) (task phase width : ℕ) (is_shown is_fresh : Bool) (me : Me S (SeatView S)) → stage ≡ Stands
+      → InStage stage task phase width is_shown is_fresh me
+      → (me.0.tasks ≡ seated_as task (deeds_in me.0.tasks) (pending_in me.0.tasks) (fresh_in me.0.tasks) ∷ []) × (me.0.phase ≡ phase)
       × (me.0.role ≡ role.Stands) × (me.1 ≡ []) × (width ≤ me.0.width)
       × (is_shown ≡ false → pending_in me.0.tasks ≡ []) × (is_shown ≡ true → task < 256)
-  stood stage task phase width is_shown me is so =
-      subst (λ (z : Stage). InStage z task phase width is_shown me) is so (λ e. cc)
+      × (is_fresh ≡ true → fresh_in me.0.tasks ≡ true)
+  stood stage task phase width is_shown is_fresh me is so =
+      subst (λ (z : Stage). InStage z task phase width is_shown is_fresh me) is so (λ e. cc)
 
 -- what a seat holds is what is lent of it
 pub lent : {S : Type 0} (held : List (ℕ × S)) (x y : S) → held ≡ (0, x) ∷ [] → held ≡ (0, y) ∷ rest held
@@ -36,3 +37,8 @@ pub sent_from : {S : Type 0} (events : S → List Event) (registered : ℕ → S
     → x ≡ z → IsSent events registered count width task e z y → IsSent events registered count width task e x y
 sent_from events registered count width task {e = e} x z y same sent =
     subst (λ (w : _). IsSent events registered count width task e w y) (sym same) sent
+
+-- what is so of an answer if there is one
+pub if_some : {A : Type 0} {P : A → Type 0} (o : Option A) → ((a : A) → o ≡ Some a → P a) → IfSome o P
+if_some None all = tt
+if_some (Some a) all = all a refl

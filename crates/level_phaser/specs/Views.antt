@@ -1,5 +1,5 @@
 -- What a seat knows, and how it changes.
-use Rattle.std.specs.Prelude.{ℕ, ◌+◌, List, [], ◌∷◌}
+use Rattle.std.specs.Prelude.{ℕ, ◌+◌, Bool, true, false, List, [], ◌∷◌}
 use Rattle.phase_model.specs.declared.history.Event.{Event}
 use Rattle.level_phaser.specs.declared.view.Deeds.{Deeds}
 use Rattle.level_phaser.specs.declared.view.SeatedTask.{SeatedTask}
@@ -10,12 +10,16 @@ use Rattle.level_phaser.specs.Deeds.{deeds, deeds_of, with_signal, with_sends}
 
 -- this task did this itself, and its row shows this
 abbrev pub seated : ℕ → Deeds → List Event → SeatedTask
-seated task done pending = record { task = task; deeds = done; pending = pending }
+seated task done pending = record { task = task; deeds = done; pending = pending; fresh = false }
+
+-- the same, and whether it has told nothing since it went on
+abbrev pub seated_as : ℕ → Deeds → List Event → Bool → SeatedTask
+seated_as task done pending fresh = record { task = task; deeds = done; pending = pending; fresh = fresh }
 
 -- what the row of each shows is told, and then one signal more
 abbrev pub signalled : List SeatedTask → List SeatedTask
 signalled [] = []
-signalled (c ∷ cs) = seated c.task (with_signal (with_sends c.pending c.deeds)) c.pending ∷ signalled cs
+signalled (c ∷ cs) = seated_as c.task (with_signal (with_sends c.pending c.deeds)) c.pending true ∷ signalled cs
 
 -- each with what it did by this history
 abbrev pub known_by : List Event → List SeatedTask → List SeatedTask
@@ -25,12 +29,17 @@ known_by h (c ∷ cs) = seated c.task (deeds_of c.task h) c.pending ∷ known_by
 -- the row of each shows this now
 abbrev pub showing : List Event → List SeatedTask → List SeatedTask
 showing es [] = []
-showing es (c ∷ cs) = seated c.task c.deeds es ∷ showing es cs
+showing es (c ∷ cs) = seated_as c.task c.deeds es c.fresh ∷ showing es cs
 
 -- what the row of the first of these tasks shows
 abbrev pub pending_in : List SeatedTask → List Event
 pending_in [] = []
 pending_in (c ∷ cs) = c.pending
+
+-- the first of these tasks has told nothing since it went on
+abbrev pub fresh_in : List SeatedTask → Bool
+fresh_in [] = false
+fresh_in (c ∷ cs) = c.fresh
 
 module _ {S : Type 0} where
   abbrev pub view_of : List SeatedTask → ℕ → Role S → List Event → ℕ → ℕ → SeatView S

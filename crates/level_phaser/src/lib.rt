@@ -3,6 +3,7 @@
 //! send values meanwhile. No call waits, takes a lock or starts a thread.
 #![tactic(auto)]
 
+mod folds;
 mod member;
 mod phaser;
 mod plays;

@@ -29,8 +29,10 @@ pub struct Member<S: LevelState> {
     pub width: u64,
     /// Whether its row has a word that isn't 0.
     pub(crate) is_shown: bool,
+    /// Whether it has gone on, and told nothing since.
+    pub(crate) is_fresh: bool,
     ghost seated: { seat.table_id ≡ (arc_value board).shared.table_id },
     ghost sized: { IsSized (arc_value board).shared.table_id },
-    ghost stands: { InStage stage task phase width is_shown seat.me },
+    ghost stands: { InStage stage task phase width is_shown is_fresh seat.me },
     ghost tellable: { ForSome kept (λ k. (k.accumulator < width) × (task < 256)) },
 }

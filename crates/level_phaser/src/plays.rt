@@ -1,5 +1,5 @@
 //! What each step on the table tells.
-ghost use Rattle.level_phaser.specs.inner.Plays.{came, looked, ended, claimed, joined, left, raised, released, heeded, shown, showed, found};
+ghost use Rattle.level_phaser.specs.inner.Plays.{came, looked, ended, claimed, joined, left, raised, released, heeded, shown, showed, found, folded, fetched};
 ghost use Rattle.level_phaser.specs.inner.Steps.{first_of, others_of};
 ghost use Rattle.level_phaser.specs.Views.{note_of, told};
 ghost use Rattle.level_phaser.specs.inner.Board.{spent};
@@ -11,69 +11,83 @@ use atomic_table::{Join as Merge, Play, Split};
 pub(crate) struct Come;
 
 impl<S: LevelState> Play<S, SeatView<S>> for Come {
-    ghost then = { came S.events S.registered S.width S.newest S.ready };
+    ghost then = { came S.events S.registered S.width S.newest S.replies S.ready };
 }
 
 pub(crate) struct Look;
 
 impl<S: LevelState> Play<S, SeatView<S>> for Look {
-    ghost then = { looked S.events S.registered S.width S.newest S.ready };
+    ghost then = { looked S.events S.registered S.width S.newest S.replies S.ready };
 }
 
 pub(crate) struct End;
 
 impl<S: LevelState> Play<S, SeatView<S>> for End {
-    ghost then = { ended S.events S.registered S.width S.newest S.ready };
+    ghost then = { ended S.events S.registered S.width S.newest S.replies S.ready };
 }
 
 /// A row's word says what the task sends.
 pub(crate) struct Put;
 
 impl<S: LevelState> Play<S, SeatView<S>> for Put {
-    ghost then = { showed S.events S.registered S.width S.newest S.ready };
+    ghost then = { showed S.events S.registered S.width S.newest S.replies S.ready };
 }
 
 /// The last finds a row's word.
 pub(crate) struct Find;
 
 impl<S: LevelState> Play<S, SeatView<S>> for Find {
-    ghost then = { found S.events S.registered S.width S.newest S.ready };
+    ghost then = { found S.events S.registered S.width S.newest S.replies S.ready };
+}
+
+/// The last writes a fold.
+pub(crate) struct Fold;
+
+impl<S: LevelState> Play<S, SeatView<S>> for Fold {
+    ghost then = { folded S.events S.registered S.width S.newest S.replies S.ready };
+}
+
+/// Who stands reads one.
+pub(crate) struct Fetch;
+
+impl<S: LevelState> Play<S, SeatView<S>> for Fetch {
+    ghost then = { fetched S.events S.registered S.width S.newest S.replies S.ready };
 }
 
 pub(crate) struct Claim;
 
 impl<S: LevelState> Play<S, SeatView<S>> for Claim {
-    ghost then = { claimed S.events S.registered S.width S.newest S.ready };
+    ghost then = { claimed S.events S.registered S.width S.newest S.replies S.ready };
 }
 
 pub(crate) struct Release;
 
 impl<S: LevelState> Play<S, SeatView<S>> for Release {
-    ghost then = { released S.events S.registered S.width S.newest S.ready };
+    ghost then = { released S.events S.registered S.width S.newest S.replies S.ready };
 }
 
 pub(crate) struct Show;
 
 impl<S: LevelState> Play<S, SeatView<S>> for Show {
-    ghost then = { shown S.events S.registered S.width S.newest S.ready };
+    ghost then = { shown S.events S.registered S.width S.newest S.replies S.ready };
 }
 
 pub(crate) struct Join;
 
 impl<S: LevelState> Play<S, SeatView<S>> for Join {
-    ghost then = { joined S.events S.registered S.width S.newest S.ready };
+    ghost then = { joined S.events S.registered S.width S.newest S.replies S.ready };
 }
 
 pub(crate) struct Leave;
 
 impl<S: LevelState> Play<S, SeatView<S>> for Leave {
-    ghost then = { left S.events S.registered S.width S.newest S.ready };
+    ghost then = { left S.events S.registered S.width S.newest S.replies S.ready };
 }
 
 pub(crate) struct Raise;
 
 impl<S: LevelState> Play<S, SeatView<S>> for Raise {
-    ghost then = { raised S.events S.registered S.width S.newest S.ready };
+    ghost then = { raised S.events S.registered S.width S.newest S.replies S.ready };
 }
 
 /// The first of a seat's tasks gets a seat of its own.
@@ -106,5 +120,5 @@ impl<S: LevelState> Merge<SeatView<S>> for Hear {
 pub(crate) struct Heed;
 
 impl<S: LevelState> Play<S, SeatView<S>> for Heed {
-    ghost then = { heeded S.events S.registered S.width S.newest S.ready };
+    ghost then = { heeded S.events S.registered S.width S.newest S.replies S.ready };
 }

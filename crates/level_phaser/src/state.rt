@@ -95,6 +95,8 @@ pub trait LevelState: Drop {
     fn look(&mut self, task: u64, accumulator: u8, phase: u64) -> Result<LongLook, Refusal>
         requires ready { ready phase self.old }
         ensures seen { result ≡ look_result (replies self.old (look task accumulator)) }
+        ensures alike { (t : ℕ) → registered task self.old ≡ true → registered t self.old ≡ true
+            → look_result (replies self.old (look t accumulator)) ≡ result }
         ensures kept { IsKept events registered count width self.old self.new }
         ensures ready { ready phase self.new };
 

@@ -1,5 +1,5 @@
 //! The calls of a task.
-ghost use Rattle.std.specs.Prelude.{◌≡◌, ◌≢◌, ◌+◌, ◌^◌, ◌<◌, ◌≤◌, [], ◌∷◌, ◌⊎◌, IfOk, true, IsTrue, IsFalse, ℕ, false, None, Some, is_some, MatchBool, MatchOption, MatchResult, IfSome, Err};
+ghost use Rattle.std.specs.Prelude.{◌≡◌, ◌≢◌, ◌+◌, ◌^◌, ◌<◌, ◌≤◌, [], ◌∷◌, ◌⊎◌, IfOk, true, IsTrue, IsFalse, ℕ, false, None, Some, Ok, is_some, MatchBool, MatchOption, MatchResult, IfSome, Err};
 ghost use Rattle.std.specs.Arc.{arc_value};
 ghost use Rattle.std.specs.Option.{ForSome};
 ghost use Rattle.told_history.specs.Tails.{IsTail};
@@ -10,16 +10,18 @@ ghost use Rattle.phase_model.specs.Answers.{look_result};
 ghost use Rattle.level_phaser.specs.declared.stage.Stage.TheVariants.{Stands, Waits, Gone, Stuck};
 ghost use Rattle.level_phaser.specs.declared.view.Role.TheVariants.{Came, Stands as StandsIn};
 ghost use Rattle.level_phaser.specs.Deeds.{deeds, kept_in};
-ghost use Rattle.level_phaser.specs.Views.{pending_in, seated, view_of, first_view, with_role, with_pending, note_of, told};
+ghost use Rattle.level_phaser.specs.Views.{pending_in, fresh_in, seated, seated_as, view_of, first_view, with_role, with_pending, note_of, told};
 ghost use Rattle.level_phaser.specs.Seen.{GoneOn, HasKept, HasToldKept, HasSent, HasLeft, HasNoRoom, IsReplied};
 ghost use Rattle.level_phaser.specs.inner.Plays.{Claimed, IsLast};
 ghost use Rattle.level_phaser.specs.inner.Steps.{IsSized, deeds_in};
 ghost use Rattle.level_phaser.specs.inner.Board.{sent_in, IsSound, accumulator_in};
 ghost use Rattle.level_phaser.specs.inner.Tellings.{Tells, HasToldAll};
 
+use crate::folds::{FOLDS, fold_of, write_folds};
 use crate::member::Member;
 use crate::plays::{
-    Claim, Come, Cut, End, Find, Hear, Heed, Join, Leave, Look, Note, Put, Raise, Release, Show,
+    Claim, Come, Cut, End, Fetch, Find, Hear, Heed, Join, Leave, Look, Note, Put, Raise, Release,
+    Show,
 };
 use crate::round::GivenSend;
 use crate::stage::Stage;
@@ -106,7 +108,8 @@ fn show<S: LevelState>(
     requires table { (seat.old.table_id ≡ shared.now.table_id) × IsSized shared.now.table_id }
     requires stands { (seat.old.me.0.role ≡ StandsIn) × (seat.old.me.1 ≡ []) }
     requires alone { seat.old.me.0.tasks
-        ≡ seated task (deeds_in seat.old.me.0.tasks) (pending_in seat.old.me.0.tasks) ∷ [] }
+        ≡ seated_as task (deeds_in seat.old.me.0.tasks) (pending_in seat.old.me.0.tasks) (fresh_in seat.old.me.0.tasks)
+        ∷ [] }
     requires kept { ForSome kept (λ k. (k.accumulator < seat.old.me.0.width) × (task < 256)) }
     requires shown { is_shown ≡ true → task < 256 }
     requires clear { is_shown ≡ false → pending_in seat.old.me.0.tasks ≡ [] }
@@ -200,7 +203,9 @@ fn end_round<S: LevelState>(
     if !value.make_round(phase) {
         return false;
     }
-    let count = value.count();
+    write_folds(shared, seat, phase + 1);
+    let state = seat.slot_mut(shared, 0);
+    let count = state.count();
     shared.store::<End>(seat, COUNT, count);
     true
 }
@@ -235,6 +240,7 @@ impl<S: LevelState> Member<S> {
             kept: None,
             width,
             is_shown: false,
+            is_fresh: false,
         })
     }
 
@@ -264,6 +270,7 @@ impl<S: LevelState> Member<S> {
             return false;
         }
         self.phase += 1;
+        self.is_fresh = true;
         shared.store::<Raise>(&mut self.seat, OVER, self.phase);
         true
     }
@@ -284,6 +291,7 @@ impl<S: LevelState> Member<S> {
             return false;
         }
         self.phase += 1;
+        self.is_fresh = true;
         self.stage = Stage::Stands;
         true
     }
@@ -320,6 +328,7 @@ impl<S: LevelState> Member<S> {
             kept: None,
             width: self.width,
             is_shown: task < MOST_ROWS,
+            is_fresh: false,
         })
     }
 
@@ -347,6 +356,7 @@ impl<S: LevelState> Member<S> {
         match state.send(self.task, accumulator, value, self.phase) {
             Ok(()) => {
                 shared.fetch_sub::<Show>(&mut self.seat, COUNT, BUSY);
+                self.is_fresh = false;
                 Some(Ok(()))
             }
             Err(why) => {
@@ -386,9 +396,27 @@ impl<S: LevelState> Member<S> {
         self.tell(accumulator, value)
     }
 
-    /// What an accumulator holds of the values that were sent for the phase before. None if others
-    /// hold what is shared: then it can be asked again. A refusal is the phaser's.
-    pub fn look_at(&mut self, accumulator: u8) -> Option<Result<LongLook, Refusal>>
+    /// What the word of an accumulator's fold says, if anything: it reads one word. A task that has
+    /// joined or told something in this phase reads none.
+    fn read(&mut self, accumulator: u8) -> Option<LongLook>
+        requires { self.old.stage ≡ Stands }
+        ensures same { (self.new.seat.table_id ≡ self.old.seat.table_id) × (self.new.task ≡ self.old.task)
+            × (self.new.phase ≡ self.old.phase) }
+        ensures kept { (self.new.stage ≡ Stands) × (self.new.seat.me.0 ≡ self.old.seat.me.0)
+            × (self.new.kept ≡ self.old.kept) }
+        ensures seen { IfSome result (λ l. IsReplied S.events S.replies (λ reply. look_result reply ≡ Ok l)
+            (look self.old.task accumulator) self.old.seat.me.0) }
+    {
+        if !self.is_fresh || accumulator as u64 >= self.width {
+            return None;
+        }
+        let shared = &self.board.shared;
+        let word = shared.load::<Fetch>(&mut self.seat, FOLDS + accumulator as usize);
+        fold_of(word)
+    }
+
+    /// The phaser is asked what an accumulator holds. None if others hold what is shared.
+    fn ask(&mut self, accumulator: u8) -> Option<Result<LongLook, Refusal>>
         requires { self.old.stage ≡ Stands }
         ensures same { (self.new.seat.table_id ≡ self.old.seat.table_id) × (self.new.task ≡ self.old.task)
             × (self.new.phase ≡ self.old.phase) }
@@ -405,6 +433,24 @@ impl<S: LevelState> Member<S> {
         let seen = state.look(self.task, accumulator, self.phase);
         shared.fetch_sub::<Release>(&mut self.seat, COUNT, BUSY);
         Some(seen)
+    }
+
+    /// What an accumulator holds of the values that were sent for the phase before: one word says
+    /// it, if the task has neither joined nor told anything in this phase. Else the phaser is asked.
+    /// None if others hold what is shared: then it can be asked again. A refusal is the phaser's.
+    pub fn look_at(&mut self, accumulator: u8) -> Option<Result<LongLook, Refusal>>
+        requires { self.old.stage ≡ Stands }
+        ensures same { (self.new.seat.table_id ≡ self.old.seat.table_id) × (self.new.task ≡ self.old.task)
+            × (self.new.phase ≡ self.old.phase) }
+        ensures kept { (self.new.stage ≡ Stands) × (self.new.seat.me.0 ≡ self.old.seat.me.0)
+            × (self.new.kept ≡ self.old.kept) }
+        ensures seen { IfSome result (λ r. IsReplied S.events S.replies (λ reply. r ≡ look_result reply)
+            (look self.old.task accumulator) self.old.seat.me.0) }
+    {
+        if let Some(seen) = self.read(accumulator) {
+            return Some(Ok(seen));
+        }
+        self.ask(accumulator)
     }
 
     /// The task leaves, and keeps no value. Whether it did: it doesn't if others hold what is shared.
@@ -427,6 +473,7 @@ impl<S: LevelState> Member<S> {
             return false;
         }
         self.stage = Stage::Gone;
+        self.is_fresh = false;
         if shared.fetch_sub::<Leave>(&mut self.seat, COUNT, BUSY + 1) != BUSY + 1 {
             return true;
         }

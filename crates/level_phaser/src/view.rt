@@ -16,6 +16,8 @@ pub struct SeatedTask {
     pub task: u64,
     pub deeds: Deeds,
     pub pending: LinkedList<Event>,
+    /// Whether it has told nothing since it went on.
+    pub fresh: bool,
 }
 
 /// Where a seat's tasks stand: they haven't come in their phase; they have; they came last, have
@@ -56,7 +58,7 @@ impl<S: LevelState> TableRule<S, SeatView<S>, Opening> for Level {
     ghost use Rattle.level_phaser.specs.Views.{first_view};
     ghost use Rattle.level_phaser.specs.inner.Board.{IsLevel};
 
-    ghost holds = { λ _. IsLevel S.events S.registered S.count S.width S.ready };
+    ghost holds = { λ _. IsLevel S.events S.registered S.count S.width S.replies S.ready };
 
     ghost first = { λ o. first_view o.task o.width };
 }

@@ -39,8 +39,13 @@ enum Answer {
 
 /// The first task of a phaser with one sum.
 fn first(alloc: Global) -> Result<Task, Refusal> {
+    first_with(alloc, Op::Sum)
+}
+
+/// The first task of a phaser with one accumulator.
+fn first_with(alloc: Global, op: Op) -> Result<Task, Refusal> {
     let mut ops = Ops::none();
-    ops.push(Op::Sum);
+    ops.push(op);
     let bound = Bound::of(2).ok_or(Refusal::NotNow)?;
     let phaser = LevelPhaser::new(alloc, ops, bound)?;
     match Member::new(alloc, phaser) {
@@ -232,10 +237,67 @@ const KEPT: [(Call, Answer); 35] = [
     (Call::Look(1), Answer::Is(true)),
 ];
 
+/// The least value: who goes on reads it, and who joins or tells something asks for it.
+const LEAST: [(Call, Answer); 31] = [
+    (Call::Join(0), Answer::Joined(1)),
+    (Call::LookAt(1), Answer::Seen(Err(Refusal::NoPhaseYet))),
+    (Call::Send(0, 0, -1), DONE),
+    (Call::Come(0), Answer::Is(false)),
+    (Call::Come(1), Answer::Is(true)),
+    (Call::LookAt(1), Answer::Seen(Ok(Look::Value(-1)))),
+    (Call::Look(0), Answer::Is(true)),
+    (Call::LookAt(0), Answer::Seen(Ok(Look::Value(-1)))),
+    // Phase 1: task 2 joins, task 1 tells its second value, and task 0 leaves.
+    (Call::Join(1), Answer::Joined(2)),
+    (Call::LookAt(2), Answer::Seen(Ok(Look::Value(-1)))),
+    (Call::Send(1, 0, i32::MAX), DONE),
+    (Call::Send(1, 0, i32::MIN), DONE),
+    (Call::LookAt(1), Answer::Seen(Ok(Look::Value(-1)))),
+    (Call::LookAt(0), Answer::Seen(Ok(Look::Value(-1)))),
+    (Call::Leave(0), Answer::Is(true)),
+    (Call::LookAt(2), Answer::Seen(Ok(Look::Value(-1)))),
+    (Call::Come(2), Answer::Is(false)),
+    (Call::LookAt(1), Answer::Seen(Ok(Look::Value(-1)))),
+    (Call::Come(1), Answer::Is(true)),
+    (
+        Call::LookAt(1),
+        Answer::Seen(Ok(Look::Value(-2_147_483_648))),
+    ),
+    (Call::Look(2), Answer::Is(true)),
+    (
+        Call::LookAt(2),
+        Answer::Seen(Ok(Look::Value(-2_147_483_648))),
+    ),
+    // Phase 2: nobody sends.
+    (Call::Come(1), Answer::Is(false)),
+    (Call::Come(2), Answer::Is(true)),
+    (Call::LookAt(2), NONE_SENT),
+    (Call::Look(1), Answer::Is(true)),
+    (Call::LookAt(1), NONE_SENT),
+    // Phase 3: task 1 leaves, and task 2 ends the round alone.
+    (Call::Leave(1), Answer::Is(true)),
+    (Call::Send(2, 0, 3), DONE),
+    (Call::Come(2), Answer::Is(true)),
+    (Call::LookAt(2), Answer::Seen(Ok(Look::Value(3)))),
+];
+
+/// There is no least of no values.
+const NONE_SENT: Answer = Answer::Seen(Ok(Look::Nothing));
+
 /// Each call in order, on the first task of a phaser.
 fn compare(rt: &impl Abort, alloc: Global, rows: &[(Call, Answer)]) -> Result<(), Fail> {
+    compare_from(rt, alloc, first(alloc)?, rows)
+}
+
+/// The same, on this task.
+fn compare_from(
+    rt: &impl Abort,
+    alloc: Global,
+    task: Task,
+    rows: &[(Call, Answer)],
+) -> Result<(), Fail> {
     let mut tasks = Vec::new(alloc);
-    tasks.push(first(alloc)?)?;
+    tasks.push(task)?;
     for (call, answer) in rows {
         equal_at(rt, *call, answer_to(&mut tasks, *call), *answer);
     }
@@ -250,6 +312,12 @@ fn each_call_of_a_task(rt: HostRuntime) -> Result<(), Fail> {
 #[test]
 fn values_that_are_kept(rt: HostRuntime) -> Result<(), Fail> {
     compare(&rt, rt.alloc(), &KEPT)
+}
+
+#[test]
+fn looks_while_tasks_join_and_leave(rt: HostRuntime) -> Result<(), Fail> {
+    let task = first_with(rt.alloc(), Op::Least)?;
+    compare_from(&rt, rt.alloc(), task, &LEAST)
 }
 
 /// So many tasks join and leave: those after them have no row.

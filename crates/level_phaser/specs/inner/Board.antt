@@ -1,6 +1,7 @@
 -- The rule of the table: what holds between any two steps, whichever threads make them.
 -- Word 0 counts the tasks that haven't come in the phase in which all stand, and is greater by `busy` while
--- somebody holds what is shared. Word 16 is the number of rounds whose tasks may go on. From word 32 on each task below
+-- somebody holds what is shared. Word 16 is the number of rounds whose tasks may go on. From word 24 on each accumulator
+-- has a word, which `Folds` tells of. From word 32 on each task below
 -- 256 has a row of eight words. In the first of them it shows a value that it sends.
 use Rattle.std.specs.Prelude.{◌*◌, ◌/◌, ◌%◌, zero, suc, ◌≡◌, ◌⊎◌, ℕ, ◌+◌, ◌<◌, ◌≤◌, ◌==◌, if◌then◌else◌, Bool, true, List, [], ◌∷◌, length, slice_index}
 use Rattle.std.specs.Int.{cast_signed, w32}
@@ -14,6 +15,9 @@ use Rattle.level_phaser.specs.declared.view.SeatedTask.{SeatedTask}
 use Rattle.level_phaser.specs.declared.view.Role.{Role}
 use Rattle.level_phaser.specs.declared.view.Role.TheVariants.{Stands, Came, Last, Holder, Gone}
 use Rattle.level_phaser.specs.declared.view.SeatView.{SeatView}
+use Rattle.phase_model.specs.declared.call.Call.{Call}
+use Rattle.phase_model.specs.Replies.{Reply}
+use Rattle.level_phaser.specs.inner.Folds.{Begins}
 use Rattle.level_phaser.specs.Deeds.{deeds_of, with_signal, with_sends}
 use Rattle.level_phaser.specs.Views.{signalled, view_of}
 
@@ -137,6 +141,8 @@ module _ {S : Type 0} where
     Homes word value homes =
         ((homes ≡ some value ∷ []) × (word < busy)) ⊎ ((homes ≡ none ∷ []) × ((word ≡ 0) ⊎ (busy ≤ word)))
 
+  module _ (events : S → List Event) (registered : ℕ → S → Bool) (count : S → ℕ) (width : S → ℕ)
+      (replies : S → Call → Reply) (ready : ℕ → S → Type 0) where
     -- there are a phase and a value that all seats fit, and the words are as above
     pub record IsLevel (s : State S (SeatView S)) : Type 0 where
       pub phase : ℕ
@@ -149,8 +155,9 @@ module _ {S : Type 0} where
       pub small : count value < 4294967296
       pub word : slice_index s.words 0 ≡ total (missing phase) s.views + (if held then busy else 0)
       pub over : slice_index s.words 16 ≤ phase
-      pub home : Homes (slice_index s.words 0) value s.homes
+      pub home : Homes events registered count width ready (slice_index s.words 0) value s.homes
       pub each : (i : ℕ) (v : SeatView S) → get_elem? s.views i ≡ some v
-          → Fits seat phase (slice_index s.words 0) value holder i v
+          → Fits events registered count width ready seat phase (slice_index s.words 0) value holder i v
       pub rows : Rows (width value) s.words s.views
+      pub begins : Begins events registered replies ready width phase s.words s.views value
       pub stands : ready phase value

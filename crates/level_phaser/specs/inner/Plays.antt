@@ -1,14 +1,21 @@
 -- What each step on the table tells the thread that makes it.
-use Rattle.std.specs.Prelude.{◌*◌, length, slice_index, ◌≡◌, ◌≢◌, ℕ, ◌+◌, ◌<◌, ◌≤◌, Bool, List, [], ◌∷◌}
+use Rattle.std.specs.Prelude.{ℤ, true, Some, Ok, set, ◌*◌, length, slice_index, ◌≡◌, ◌≢◌, ℕ, ◌+◌, ◌<◌, ◌≤◌, Bool, List, [], ◌∷◌}
 use Rattle.atomic_table.specs.Table.{Me, Step}
 use Rattle.told_history.specs.Tails.{IsTail}
 use Rattle.phase_model.specs.declared.history.Event.{Event}
 use Rattle.level_phaser.specs.declared.view.SeatView.{SeatView}
 use Rattle.level_phaser.specs.declared.view.Role.TheVariants.{Stands, Came, Last, Holder, Gone}
 use Rattle.level_phaser.specs.Deeds.{deeds}
-use Rattle.level_phaser.specs.Views.{seated, signalled, view_of, with_role, with_pending, with_seen, without_tasks, gone_on}
+use Rattle.level_phaser.specs.Views.{seated, seated_as, view_of, with_role, with_pending, with_seen, without_tasks}
 use Rattle.level_phaser.specs.inner.Board.{busy, sent_in, IsSound}
-use Rattle.level_phaser.specs.Seen.{AreSeated, GoneOn}
+use Rattle.level_phaser.specs.Seen.{AreSeated, GoneOn, IsReplied}
+use Rattle.level_phaser.specs.declared.view.Deeds.{Deeds}
+use Rattle.level_phaser.specs.inner.Folds.{fold_in}
+use Rattle.phase_model.specs.declared.call.Call.{Call}
+use Rattle.phase_model.specs.declared.call.Call.TheVariants.{Look as look}
+use Rattle.phase_model.specs.declared.op.Look.{Look as LookOf}
+use Rattle.phase_model.specs.Replies.{Reply}
+use Rattle.phase_model.specs.Answers.{look_result}
 
 -- a seat's view, and what it holds
 abbrev M : Type 0 → Type 0
@@ -36,7 +43,7 @@ IsLast {S} events ready phase m =
     × (length took.1 ≡ 2080)
 
 module _ {S : Type 0} (events : S → List Event) (registered : ℕ → S → Bool) (width : S → ℕ) (newest : S → ℕ)
-    (ready : ℕ → S → Type 0) where
+    (replies : S → Call → Reply) (ready : ℕ → S → Type 0) where
   -- who comes last has what is shared
   abbrev pub came : Step S → M S → ℕ → M S → Type 0
   came st m n m' =
@@ -54,8 +61,21 @@ module _ {S : Type 0} (events : S → List Event) (registered : ℕ → S → Bo
   -- the last has made the round, and given back what is shared
   abbrev pub ended : Step S → M S → ℕ → M S → Type 0
   ended st m n m' =
-      (y : S) → m.1 ≡ (0, y) ∷ []
-      → (m' ≡ (gone_on m.0 (events y), [])) × AreSeated events registered ready (signalled m.0.tasks) y
+      GoneOn events registered ready m.0 m'.0 × (m'.1 ≡ [])
+
+  -- the last knows that the word of a fold is this
+  abbrev pub folded : Step S → M S → ℕ → M S → Type 0
+  folded st m n m' =
+      (x : S) (ws : List ℕ) → m.0.role ≡ Last x ws → m' ≡ (with_role m.0 (Last x (set ws st.word st.first)), m.1)
+
+  -- what the word of a fold stands for is what a fresh task is answered, with a history that goes on from what it
+  -- has seen
+  abbrev pub fetched : Step S → M S → ℕ → M S → Type 0
+  fetched st m n m' =
+      (m' ≡ m)
+      × ((a t : ℕ) (d : Deeds) (es : List Event) (l : LookOf ℤ) → st.word ≡ 24 + a → a < m.0.width
+      → m.0.role ≡ Stands → m.0.tasks ≡ seated_as t d es true ∷ [] → fold_in n ≡ Some l
+      → IsReplied events replies (λ reply. look_result reply ≡ Ok l) (look t a) m.0)
 
   -- if the word was as expected the seat holds what is shared
   abbrev pub claimed : Step S → M S → ℕ → M S → Type 0

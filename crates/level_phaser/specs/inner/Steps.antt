@@ -11,7 +11,7 @@ use Rattle.level_phaser.specs.declared.view.SeatView.{SeatView}
 use Rattle.level_phaser.specs.declared.stage.Stage.{Stage}
 use Rattle.level_phaser.specs.declared.stage.Stage.TheVariants.{Stands, Waits, Gone, Stuck}
 use Rattle.level_phaser.specs.Deeds.{deeds}
-use Rattle.level_phaser.specs.Views.{seated, pending_in}
+use Rattle.level_phaser.specs.Views.{seated_as, pending_in, fresh_in}
 use Rattle.level_phaser.specs.inner.Board.{with_tasks}
 
 -- the table has room for two words in lines of memory of their own, the rows, and one value
@@ -34,11 +34,11 @@ deeds_in [] = deeds 0 []
 deeds_in (c ∷ cs) = c.deeds
 
 -- a task that is done has no seat any more
-abbrev pub tasks_of : Stage → ℕ → Deeds → List Event → List SeatedTask
-tasks_of Stands task done es = seated task done es ∷ []
-tasks_of Waits task done es = seated task done es ∷ []
-tasks_of Gone task done es = []
-tasks_of Stuck task done es = []
+abbrev pub tasks_of : Stage → ℕ → Deeds → List Event → Bool → List SeatedTask
+tasks_of Stands task done es fresh = seated_as task done es fresh ∷ []
+tasks_of Waits task done es fresh = seated_as task done es fresh ∷ []
+tasks_of Gone task done es fresh = []
+tasks_of Stuck task done es fresh = []
 
 module _ {S : Type 0} where
   -- the view of a seat for the first of its tasks
@@ -57,13 +57,14 @@ module _ {S : Type 0} where
   role_of Stuck = role.Gone
 
   -- the seat is of this task and in this phase, and holds nothing; the task's row shows something only if it is said; nothing is known of a task that is stuck
-  abbrev pub InStage : Stage → ℕ → ℕ → ℕ → Bool → Me S (SeatView S) → Type 0
-  InStage stage task phase width is_shown me =
+  abbrev pub InStage : Stage → ℕ → ℕ → ℕ → Bool → Bool → Me S (SeatView S) → Type 0
+  InStage stage task phase width is_shown is_fresh me =
       stage ≢ Stuck
-      → (me.0.tasks ≡ tasks_of stage task (deeds_in me.0.tasks) (pending_in me.0.tasks))
+      → (me.0.tasks ≡ tasks_of stage task (deeds_in me.0.tasks) (pending_in me.0.tasks) (fresh_in me.0.tasks))
       × (me.0.phase ≡ phase)
       × (me.0.role ≡ role_of stage)
       × (me.1 ≡ [])
       × (width ≤ me.0.width)
       × (is_shown ≡ false → pending_in me.0.tasks ≡ [])
       × (is_shown ≡ true → task < 256)
+      × (is_fresh ≡ true → fresh_in me.0.tasks ≡ true)

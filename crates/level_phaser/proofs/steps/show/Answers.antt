@@ -12,7 +12,7 @@ store-requires g c =
     let low = k.1 in (
       c.requires.table.0,
       subst (λ (n : ℕ). 32 + 8 * c.args.task < n) (sym c.requires.table.1.0) (omega arith),
-      puts L.events L.registered L.count L.width L.newest L.ready _ _ c.args.task _ _ _ _ k.1 c.requires.alone
+      puts L.events L.registered L.count L.width L.newest L.replies L.ready _ _ c.args.task _ _ _ _ _ k.1 c.requires.alone
           c.requires.stands.0 (c.word_of.ensures.sound c.args.seat.now.me.0.width k.0),
     )
 
@@ -29,7 +29,7 @@ store-requires-then-is_shown g c =
     let low = c.requires.shown c.if-is_shown.true in (
       c.requires.table.0,
       subst (λ (n : ℕ). 32 + 8 * c.args.task < n) (sym c.requires.table.1.0) (omega arith),
-      puts L.events L.registered L.count L.width L.newest L.ready _ _ c.args.task _ _ _ _ low c.requires.alone
+      puts L.events L.registered L.count L.width L.newest L.replies L.ready _ _ c.args.task _ _ _ _ _ low c.requires.alone
           c.requires.stands.0 tt,
     )
 

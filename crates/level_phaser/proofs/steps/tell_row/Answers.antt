@@ -36,7 +36,7 @@ load-word-requires g c =
     let low = c.if-task-ge-MOST_ROWS.false in (
       c.requires.table.0,
       subst (λ (n : ℕ). 32 + 8 * c.in-Some.task < n) (sym c.requires.table.1.0) (omega arith),
-      finds L.events L.registered L.count L.width L.newest L.ready _ _ c.in-Some.task _,
+      finds L.events L.registered L.count L.width L.newest L.replies L.ready _ _ c.in-Some.task _,
     )
 
 pub returns-then-word-eq0-clause-tells : goal.returns-then-word-eq0-clause-tells

@@ -13,11 +13,11 @@ pub fetch_sub-requires : goal.fetch_sub-requires
 fetch_sub-requires g c =
     let L = g.S.LevelState in
     let me = c.args.self.now in
-    let at = stood me.stage me.task me.phase me.width me.is_shown me.seat.me c.requires.0 me.stands in
+    let at = stood me.stage me.task me.phase me.width me.is_shown me.is_fresh me.seat.me c.requires.0 me.stands in
     let shown = c.show-self.ensures.shows in (
       search rules,
       search rules,
-      comes L.events L.registered L.count L.width L.newest L.ready _ _ _
+      comes L.events L.registered L.count L.width L.newest L.replies L.ready _ _ _
           (ap (λ m. length m.0.tasks) shown ∙ ap (λ cs. length (showing (kept_in me.task me.kept) cs)) at.0)
           (ap (λ m. m.0.role) shown ∙ at.2) (ap (λ m. m.1) shown),
     )
@@ -26,7 +26,7 @@ pub end_round-requires-clause-last : goal.end_round-requires-clause-last
 end_round-requires-clause-last g c =
     let L = g.S.LevelState in
     let me = c.args.self.now in
-    let at = stood me.stage me.task me.phase me.width me.is_shown me.seat.me c.requires.0 me.stands in
+    let at = stood me.stage me.task me.phase me.width me.is_shown me.is_fresh me.seat.me c.requires.0 me.stands in
     let shown = c.show-self.ensures.shows in
     let took = c.fetch_sub.ensures.2.0 c.if-fetch_sub-ne1.false in
     let is = took.1 in
@@ -44,7 +44,7 @@ pub store-requires : goal.store-requires
 store-requires g c =
     let L = g.S.LevelState in
     let me = c.args.self.now in
-    let at = stood me.stage me.task me.phase me.width me.is_shown me.seat.me c.requires.0 me.stands in
+    let at = stood me.stage me.task me.phase me.width me.is_shown me.is_fresh me.seat.me c.requires.0 me.stands in
     let shown = c.show-self.ensures.shows in
     let is = (c.fetch_sub.ensures.2.0 c.if-fetch_sub-ne1.false).1 in
     let gone = (c.end_round.ensures.ended c.if-not-end_round.false).0 in
@@ -52,7 +52,7 @@ store-requires g c =
     ∙ ap (λ cs. showing (kept_in me.task me.kept) cs) at.0 in (
       search rules,
       search rules,
-      raises L.events L.registered L.count L.width L.newest L.ready _ _ _ _ (ap (λ v. v.role) gone.1
+      raises L.events L.registered L.count L.width L.newest L.replies L.ready _ _ _ _ (ap (λ v. v.role) gone.1
           ∙ ap (λ cs. role_after cs) tasks)
           (sym (ap (λ v. v.phase) gone.1 ∙ ap (λ (n : ℕ). n + 1) (ap (λ m. m.0.phase) is
           ∙ ap (λ m. m.0.phase) shown ∙ at.1))),

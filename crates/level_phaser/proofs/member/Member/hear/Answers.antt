@@ -7,7 +7,7 @@ split_seat-note-requires g c = (
   search rules,
   search rules,
   notes g.S.LevelState.events g.S.LevelState.registered g.S.LevelState.count g.S.LevelState.width
-      g.S.LevelState.newest g.S.LevelState.ready _ _,
+      g.S.LevelState.newest g.S.LevelState.replies g.S.LevelState.ready _ _,
 )
 
 pub join_seat-requires : goal.join_seat-requires
@@ -17,7 +17,7 @@ join_seat-requires g c = let note = c.split_seat-note.ensures.4 in (
   ap (λ m. m.1) note,
   search rules,
   hears g.S.LevelState.events
-      g.S.LevelState.registered g.S.LevelState.count g.S.LevelState.width g.S.LevelState.newest g.S.LevelState.ready _ _ _ _
+      g.S.LevelState.registered g.S.LevelState.count g.S.LevelState.width g.S.LevelState.newest g.S.LevelState.replies g.S.LevelState.ready _ _ _ _
       (ap (λ m. m.0.role) note) (ap (λ m. m.0.tasks) note),
 )
 
@@ -26,5 +26,5 @@ load-requires g c = (
   search rules,
   search rules,
   heeds g.S.LevelState.events g.S.LevelState.registered g.S.LevelState.count g.S.LevelState.width
-      g.S.LevelState.newest g.S.LevelState.ready _ _ _,
+      g.S.LevelState.newest g.S.LevelState.replies g.S.LevelState.ready _ _ _,
 )

@@ -3,7 +3,7 @@ use Rattle.told_history.specs.Tails.{IsTail}
 use Rattle.atomic_table.specs.Table.{rest}
 use Rattle.phase_model.specs.declared.history.Event.{Event}
 use Rattle.level_phaser.specs.Changes.{IsLeft, IsKept}
-use Rattle.level_phaser.specs.Views.{pending_in, seated, signalled, role_after}
+use Rattle.level_phaser.specs.Views.{pending_in, fresh_in, seated_as, signalled, role_after}
 use Rattle.level_phaser.specs.inner.Steps.{deeds_in}
 use Rattle.level_phaser.proofs.Coming.{raises_late}
 use Rattle.level_phaser.proofs.Holding.{releases, leaves}
@@ -15,7 +15,7 @@ pub fetch_sub-requires : goal.fetch_sub-requires
 fetch_sub-requires g c =
     let L = g.S.LevelState in
     let me = c.args.self.now in
-    let at = stood me.stage me.task me.phase me.width me.is_shown me.seat.me c.requires.0 me.stands in
+    let at = stood me.stage me.task me.phase me.width me.is_shown me.is_fresh me.seat.me c.requires.0 me.stands in
     let took = c.claim.ensures.claimed c.if-not-claim.false in
     let is = took.1 in
     let y = c.leave.new.self in
@@ -24,7 +24,7 @@ fetch_sub-requires g c =
     let tasks = ap (λ m. m.0.tasks) is ∙ at.0 in (
       search rules,
       search rules,
-      releases L.events L.registered L.count L.width L.newest L.ready _ _ _ took.0 y
+      releases L.events L.registered L.count L.width L.newest L.replies L.ready _ _ _ took.0 y
           (subst (λ (n : ℕ). 0 < n) (sym (ap length tasks)) (omega arith)) (ap (λ m. m.0.role) is)
           (ap (λ m. (0, y) ∷ rest m.1) is)
           (subst (λ (z : g.row.S.Denot). IsKept L.events L.registered L.count L.width z y) (sym same)
@@ -36,7 +36,7 @@ pub fetch_sub-requires-2 : goal.fetch_sub-requires-2
 fetch_sub-requires-2 g c =
     let L = g.S.LevelState in
     let me = c.args.self.now in
-    let at = stood me.stage me.task me.phase me.width me.is_shown me.seat.me c.requires.0 me.stands in
+    let at = stood me.stage me.task me.phase me.width me.is_shown me.is_fresh me.seat.me c.requires.0 me.stands in
     let took = c.claim.ensures.claimed c.if-not-claim.false in
     let is = took.1 in
     let y = c.leave.new.self in
@@ -44,8 +44,8 @@ fetch_sub-requires-2 g c =
     let phase : c.claim.new.seat.me.0.phase ≡ me.phase = ap (λ m. m.0.phase) is ∙ at.1 in (
       search rules,
       search rules,
-      leaves L.events L.registered L.count L.width L.newest L.ready _ _ _
-          (seated me.task (deeds_in me.seat.me.0.tasks) (pending_in me.seat.me.0.tasks)) took.0 y (ap (λ m. m.0.tasks) is ∙ at.0)
+      leaves L.events L.registered L.count L.width L.newest L.replies L.ready _ _ _
+          (seated_as me.task (deeds_in me.seat.me.0.tasks) (pending_in me.seat.me.0.tasks) (fresh_in me.seat.me.0.tasks)) took.0 y (ap (λ m. m.0.tasks) is ∙ at.0)
           (ap (λ m. m.0.role) is) (ap (λ m. (0, y) ∷ rest m.1) is)
           (subst (λ (z : g.row.S.Denot). IsLeft L.events L.registered L.count L.width me.task z y) (sym same)
           (c.leave.ensures.left c.if-not-leave.false))
@@ -56,7 +56,7 @@ pub end_round-requires-clause-last : goal.end_round-requires-clause-last
 end_round-requires-clause-last g c =
     let L = g.S.LevelState in
     let me = c.args.self.now in
-    let at = stood me.stage me.task me.phase me.width me.is_shown me.seat.me c.requires.0 me.stands in
+    let at = stood me.stage me.task me.phase me.width me.is_shown me.is_fresh me.seat.me c.requires.0 me.stands in
     let is = (c.claim.ensures.claimed c.if-not-claim.false).1 in
     let y = c.leave.new.self in
     let found = (c.fetch_sub-2.ensures.2 y (ap (λ m. (0, y) ∷ rest m.1) is)).0 c.if-fetch_sub.false in
@@ -75,7 +75,7 @@ pub fetch_max-requires : goal.fetch_max-requires
 fetch_max-requires g c =
     let L = g.S.LevelState in
     let me = c.args.self.now in
-    let at = stood me.stage me.task me.phase me.width me.is_shown me.seat.me c.requires.0 me.stands in
+    let at = stood me.stage me.task me.phase me.width me.is_shown me.is_fresh me.seat.me c.requires.0 me.stands in
     let is = (c.claim.ensures.claimed c.if-not-claim.false).1 in
     let y = c.leave.new.self in
     let found = (c.fetch_sub-2.ensures.2 y (ap (λ m. (0, y) ∷ rest m.1) is)).0 c.if-fetch_sub.false in
@@ -83,7 +83,7 @@ fetch_max-requires g c =
     let gone = (c.end_round.ensures.ended c.if-not-end_round.false).0 in (
       search rules,
       search rules,
-      raises_late L.events L.registered L.count L.width L.newest L.ready _ _ _ _ (ap (λ v. v.role) gone.1
+      raises_late L.events L.registered L.count L.width L.newest L.replies L.ready _ _ _ _ (ap (λ v. v.role) gone.1
           ∙ ap (λ cs. role_after cs) (ap (λ m. m.0.tasks) last))
           (sym (ap (λ v. v.phase) gone.1 ∙ ap (λ (n : ℕ). n + 1) (ap (λ m. m.0.phase) last
           ∙ ap (λ m. m.0.phase) is ∙ at.1))),

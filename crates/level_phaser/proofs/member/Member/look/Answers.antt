@@ -7,5 +7,5 @@ load-requires g c = (
   search rules,
   search rules,
   looks g.S.LevelState.events g.S.LevelState.registered g.S.LevelState.count g.S.LevelState.width
-      g.S.LevelState.newest g.S.LevelState.ready _ _ _ (search rules),
+      g.S.LevelState.newest g.S.LevelState.replies g.S.LevelState.ready _ _ _ (search rules),
 )

@@ -1,9 +1,10 @@
-use Rattle.std.proofs.Common.{refl, ap, ◌∙◌, length}
+use Rattle.std.proofs.Common.{refl, sym, ap, ◌∙◌, length}
 use Rattle.phase_model.specs.declared.terms.Terms.{Terms}
 use Rattle.phase_model.specs.declared.call.Call.TheVariants.{Look as look}
 use Rattle.phase_model.specs.Rules.{Story}
 use Rattle.phase_model.specs.Replies.{reply}
 use Rattle.level_phaser.proofs.Answered.{same_terms}
+use Rattle.level_phaser.proofs.Looks.{level_alike}
 use Rattle.level_phaser.proofs.Sends.{looked_level}
 use Rattle.level_phaser.proofs.phaser.LevelPhaserLevelState.look.Goals as goal
 
@@ -24,3 +25,9 @@ returns-clause-ready c =
     let k = looked_level c.args.phase c.args.task c.args.accumulator c.args.self.now.tasks.items
     c.args.self.now.phaser.story _ c.requires.ready.1 c.look-seen.ensures.history in
     (c.history.ensures.legal, k.stand)
+
+pub returns-clause-alike : goal.returns-clause-alike
+returns-clause-alike c t live live' =
+    level_alike c.args.phase c.args.self.now.tasks.items c.args.self.now.phaser.story t c.args.task c.args.accumulator
+    c.requires.ready.1 live' live
+    ∙ sym c.look-seen.ensures.reply

@@ -5,13 +5,13 @@ use Rattle.phase_model.specs.declared.call.Call.TheVariants.{Look as look}
 use Rattle.level_phaser.specs.Changes.{IsKept}
 use Rattle.level_phaser.proofs.Holding.{releases}
 use Rattle.level_phaser.proofs.Stages.{stood, lent}
-use Rattle.level_phaser.proofs.member.Member.look_at.Goals as goal
+use Rattle.level_phaser.proofs.member.Member.ask.Goals as goal
 
 pub fetch_sub-requires : goal.fetch_sub-requires
 fetch_sub-requires g c =
     let L = g.S.LevelState in
     let me = c.args.self.now in
-    let at = stood me.stage me.task me.phase me.width me.is_shown me.seat.me c.requires me.stands in
+    let at = stood me.stage me.task me.phase me.width me.is_shown me.is_fresh me.seat.me c.requires me.stands in
     let took = c.claim.ensures.claimed c.if-not-claim.false in
     let is = took.1 in
     let y = c.look-seen.new.self in
@@ -20,7 +20,7 @@ fetch_sub-requires g c =
     let tasks = ap (λ m. m.0.tasks) is ∙ at.0 in (
       search rules,
       search rules,
-      releases L.events L.registered L.count L.width L.newest L.ready _ _ _ took.0 y
+      releases L.events L.registered L.count L.width L.newest L.replies L.ready _ _ _ took.0 y
           (subst (λ (n : ℕ). 0 < n) (sym (ap length tasks)) (omega arith)) (ap (λ m. m.0.role) is)
           (ap (λ m. (0, y) ∷ rest m.1) is)
           (subst (λ (z : g.row.S.Denot). IsKept L.events L.registered L.count L.width z y)
