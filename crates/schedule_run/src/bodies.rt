@@ -57,7 +57,14 @@ impl<'p> Bodies<'p> {
         }
         match &mut self.seats[place] {
             None => Act::End,
-            Some(seat) => seat.next_act(Answer::Done),
+            Some(seat) => {
+                let heard = seat.heard;
+                seat.heard = Answer::Done;
+                match seat.body.step(heard) {
+                    Ok(act) => act,
+                    Err(_) => Act::End,
+                }
+            }
         }
     }
 

@@ -35,49 +35,49 @@ pub(crate) struct Record {
 }
 
 /// What a look saw, by its answer.
-fn seen(reply: Reply) -> Look
-    ensures { result ≡ seen reply }
+fn seen(reply: &Reply) -> Look
+    ensures { result ≡ seen reply.now }
 {
     match reply {
-        Reply::Value(look) => look,
+        Reply::Value(look) => *look,
         _ => Look::Nothing,
     }
 }
 
 /// The step as a trace has it, if it was answered this.
-fn traced_step(step: Step, reply: Reply) -> TracedStep
-    ensures { result ≡ traced_step step reply }
+fn traced_step(step: &Step, reply: &Reply) -> TracedStep
+    ensures { result ≡ traced_step step.now reply.now }
 {
     match step {
-        Step::Make(task, mode, terms) => TracedStep::Make(task, mode, terms),
-        Step::Reg(parent, child, mode) => TracedStep::Reg(parent, child, mode),
-        Step::Sig(task, number) => TracedStep::Sig(task, number),
-        Step::Claim(task) => TracedStep::Claim(task),
-        Step::Did(task) => TracedStep::Did(task),
-        Step::Pass(task) => TracedStep::Pass(task),
-        Step::Send(task, accumulator, value) => TracedStep::Send(task, accumulator, value),
-        Step::Look(task, accumulator) => TracedStep::Look(task, accumulator, seen(reply)),
-        Step::Drop(task) => TracedStep::Drop(task),
+        Step::Make(task, mode, terms) => TracedStep::Make(*task, *mode, *terms),
+        Step::Reg(parent, child, mode) => TracedStep::Reg(*parent, *child, *mode),
+        Step::Sig(task, number) => TracedStep::Sig(*task, *number),
+        Step::Claim(task) => TracedStep::Claim(*task),
+        Step::Did(task) => TracedStep::Did(*task),
+        Step::Pass(task) => TracedStep::Pass(*task),
+        Step::Send(task, accumulator, value) => TracedStep::Send(*task, *accumulator, *value),
+        Step::Look(task, accumulator) => TracedStep::Look(*task, *accumulator, seen(reply)),
+        Step::Drop(task) => TracedStep::Drop(*task),
     }
 }
 
 /// The event as a trace has it, if it was answered this.
-fn traced(event: WorldEvent, reply: Reply) -> TracedEvent
-    ensures { result ≡ traced event reply }
+fn traced(event: &WorldEvent, reply: &Reply) -> TracedEvent
+    ensures { result ≡ traced event.now reply.now }
 {
     match event {
-        WorldEvent::Phaser(phaser, step) => TracedEvent::Phaser(phaser, traced_step(step, reply)),
-        WorldEvent::Finish(finish, step) => TracedEvent::Finish(finish, step),
-        WorldEvent::Begin(task, begun) => TracedEvent::Begin(task, begun),
-        WorldEvent::Refuse(task, tried, number) => TracedEvent::Refuse(task, tried, number),
-        WorldEvent::Fail(task, number) => TracedEvent::Fail(task, number),
+        WorldEvent::Phaser(phaser, step) => TracedEvent::Phaser(*phaser, traced_step(step, reply)),
+        WorldEvent::Finish(finish, step) => TracedEvent::Finish(*finish, *step),
+        WorldEvent::Begin(task, begun) => TracedEvent::Begin(*task, *begun),
+        WorldEvent::Refuse(task, tried, number) => TracedEvent::Refuse(*task, *tried, *number),
+        WorldEvent::Fail(task, number) => TracedEvent::Fail(*task, *number),
     }
 }
 
 /// Adds the event to the trace, with the next ticket; the first is 1.
-fn add(trace: &mut Trace, event: WorldEvent, reply: Reply) -> Result<(), Refusal>
+fn add(trace: &mut Trace, event: &WorldEvent, reply: &Reply) -> Result<(), Refusal>
     ensures added { IfOk result (λ _. trace.new
-        ≡ with_event trace.old (length trace.old.events + 1, traced event reply)) }
+        ≡ with_event trace.old (length trace.old.events + 1, traced event.now reply.now)) }
     ensures memory { IfErr result (λ r. r ≡ NoMemory) }
 {
     let ticket = trace.len() as u64 + 1;
@@ -98,22 +98,22 @@ impl Record {
 
     /// Makes the event, if the world lets it, and traces it. `Memory` if the trace can't grow:
     /// the world has made the event then.
-    pub(crate) fn make(&mut self, event: WorldEvent) -> Result<Outcome, Refusal>
+    pub(crate) fn make(&mut self, event: &WorldEvent) -> Result<Outcome, Refusal>
         ensures outcome { IfOk result (λ o. (l : limits.Limits) (w : List Event)
-            → Records l w self.old.world self.old.trace → o ≡ outcome_of (reply l w event)) }
+            → Records l w self.old.world self.old.trace → o ≡ outcome_of (reply l w event.now)) }
         ensures stands { IfOk result (λ _. (l : limits.Limits) (w : List Event)
             → Records l w self.old.world self.old.trace
-            → Records l (after w event (reply l w event)) self.new.world self.new.trace) }
+            → Records l (after w event.now (reply l w event.now)) self.new.world self.new.trace) }
         ensures memory { IfErr result (λ r. r ≡ NoMemory) }
     {
-        let reply = match self.world.step(&event) {
+        let reply = match self.world.step(event) {
             Ok(reply) => reply,
             Err(refusal) => return Ok(Outcome::Refused(refusal)),
         };
         if matches!(reply, Reply::NotYet) {
             return Ok(Outcome::Waits);
         }
-        add(&mut self.trace, event, reply)?;
+        add(&mut self.trace, event, &reply)?;
         Ok(Outcome::Made)
     }
 }

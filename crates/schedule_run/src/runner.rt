@@ -14,6 +14,7 @@ ghost use Rattle.world_model.specs.declared.event.WorldEvent.TheVariants.{Begin,
 ghost use Rattle.world_model.specs.Actors.{actor};
 ghost use Rattle.world_model.specs.Due.{is_idle};
 ghost use Rattle.world_model.specs.Replies.{after, is_accepted, reply};
+ghost use Rattle.world_model.specs.Drawing.{own_pairs};
 ghost use Rattle.world_model.specs.Numbers.{is_named};
 ghost use Rattle.world_model.specs.Tasks.{is_born, is_ended};
 ghost use Rattle.trace_walk.specs.Picks.{unused, event_of, pick, picked, round_from, rounds, run_within};
@@ -29,11 +30,11 @@ use crate::ended::Ended;
 use crate::notes::Notes;
 use crate::record::{Outcome, Record};
 use job_script::{Act, Program, ScriptBody};
-use phase_modes::{PhaserNumber, Refusal, TaskNumber};
+use phase_modes::{Phased, PhaserNumber, Refusal, TaskNumber};
 use std::alloc::Global;
 use trace_model::Trace;
 use trace_walk::{Numbers, event_of, tried_of};
-use world_model::{Condition, Tried, WorldEvent};
+use world_model::{Begun, Condition, Step, Tried, WorldEvent};
 
 /// A run under way: its record, its tasks' bodies, and the notes of those that wait.
 #[derive(Drop)]
@@ -44,6 +45,7 @@ pub(crate) struct Runner<'p> {
 }
 
 /// The event by which a task makes the act.
+#[inline(never)]
 fn made(task: u32, act: &Tried) -> WorldEvent
     ensures { result ≡ event_of task act.now }
 {
@@ -51,6 +53,7 @@ fn made(task: u32, act: &Tried) -> WorldEvent
 }
 
 /// The entry by which a task reports that the act was refused.
+#[inline(never)]
 fn refused(task: u32, act: &Tried, refusal: Refusal) -> WorldEvent
     ensures { result ≡ Refuse task act.now (number_of refusal) }
 {
@@ -90,22 +93,23 @@ fn seat<'p>(bodies: &mut Bodies<'p>, child: u32, body: ScriptBody<'p>)
 }
 
 /// The task makes the event, if the world lets it. Nothing is noted of the task then.
+#[inline(never)]
 fn try_event(
     recorded: &mut Record,
     notes: &mut Notes,
     task: u32,
-    event: WorldEvent,
+    event: &WorldEvent,
 ) -> Result<Outcome, Refusal>
     ensures outcome { IfOk result (λ o. (l : limits.Limits) (w : List Event) → Kept l w recorded.old notes.old
-        → o ≡ outcome_of (reply l w event)) }
+        → o ≡ outcome_of (reply l w event.now)) }
     ensures kept { IfOk result (λ _. (l : limits.Limits) (w : List Event) → Kept l w recorded.old notes.old
-        → actor w event ≡ task → Kept l (after w event (reply l w event)) recorded.new notes.new) }
+        → actor w event.now ≡ task → Kept l (after w event.now (reply l w event.now)) recorded.new notes.new) }
     ensures memory { IfErr result (λ e. e ≡ NoMemory) }
 {
     notes.forget(task);
     let outcome = recorded.make(event)?;
     if matches!(outcome, Outcome::Made) {
-        notes.renew(&event, recorded.trace.len() as u64);
+        notes.renew(event, recorded.trace.len() as u64);
     }
     Ok(outcome)
 }
@@ -159,26 +163,90 @@ impl<'p> Runner<'p> {
         }
     }
 
+    /// The act as the task tries it, with these numbers. Its phasers are asked for only if it hands on
+    /// all of them.
+    #[inline(never)]
+    fn tried_by(&self, task: u32, new: Numbers, act: &Act<ScriptBody<'p>>) -> Tried
+        ensures { (w : List Event) → StandsFor w self.now.recorded.world
+            → result ≡ tried_of (own_pairs task w) (numbers_view new) act.now }
+    {
+        match act {
+            Act::AsyncAll(_) => tried_of(self.recorded.world.own_pairs(task), new, act),
+            _ => tried_of(Phased::none(), new, act),
+        }
+    }
+
+    /// The event by which the task makes an act that may hand on phasers.
+    #[inline(never)]
+    fn long_event_by(&self, task: u32, new: Numbers, act: &Act<ScriptBody<'p>>) -> WorldEvent
+        ensures { (w : List Event) → StandsFor w self.now.recorded.world
+            → result ≡ event_of task (tried_of (own_pairs task w) (numbers_view new) act.now) }
+    {
+        made(task, &self.tried_by(task, new, act))
+    }
+
+    /// The event by which the task makes the act. The acts that tasks repeat most are told apart here:
+    /// they need no room for phasers.
+    #[inline(never)]
+    fn event_by(&self, task: u32, new: Numbers, act: &Act<ScriptBody<'p>>) -> WorldEvent
+        ensures { (w : List Event) → StandsFor w self.now.recorded.world
+            → result ≡ event_of task (tried_of (own_pairs task w) (numbers_view new) act.now) }
+    {
+        match act {
+            Act::Next => WorldEvent::Begin(task, Begun::Next),
+            Act::Signal => WorldEvent::Begin(task, Begun::Signal),
+            Act::Wait => WorldEvent::Begin(task, Begun::Wait),
+            Act::Send(phaser, accumulator, value) => {
+                WorldEvent::Phaser(*phaser, Step::Send(task, *accumulator, *value))
+            }
+            Act::Look(phaser, accumulator) => {
+                WorldEvent::Phaser(*phaser, Step::Look(task, *accumulator))
+            }
+            _ => self.long_event_by(task, new, act),
+        }
+    }
+
+    /// The act was refused. The task's log says so, and it ends.
+    #[inline(never)]
+    fn report(
+        &mut self,
+        task: u32,
+        new: Numbers,
+        act: &Act<ScriptBody<'p>>,
+        refusal: Refusal,
+    ) -> Result<(), Refusal>
+        ensures kept { IfOk result (λ _. (l : limits.Limits) (w : List Event)
+            → Kept l w self.old.recorded self.old.notes
+            → Kept l (after w (Refuse task (tried_of (own_pairs task w) (numbers_view new) act.now) (number_of refusal))
+            (reply l w (Refuse task (tried_of (own_pairs task w) (numbers_view new) act.now) (number_of refusal))))
+            self.new.recorded self.new.notes) }
+        ensures bodies { self.new.bodies ≡ self.old.bodies }
+        ensures memory { IfErr result (λ e. e ≡ NoMemory) }
+    {
+        let tried = self.tried_by(task, new, act);
+        let entry = refused(task, &tried, refusal);
+        try_event(&mut self.recorded, &mut self.notes, task, &entry)?;
+        Ok(())
+    }
+
     /// An idle task begins its next act. If that is refused, its log says so, and it ends.
+    #[inline(never)]
     fn begin(&mut self, task: u32) -> Result<(), Refusal>
         ensures stands { IfOk result (λ _. (p : programs.Program) (w : List Event) → RunStands p w self.old
             → is_idle task w ≡ true → RunStands p (pick p w task) self.new) }
         ensures memory { IfErr result (λ e. e ≡ NoMemory) }
     {
-        let own = self.recorded.world.own_pairs(task);
         let act = self.bodies.next_act(task);
         let new = self.drawn_by(&act);
-        let tried = tried_of(own, new, &act);
-        let event = made(task, &tried);
-        match try_event(&mut self.recorded, &mut self.notes, task, event)? {
+        let event = self.event_by(task, new, &act);
+        match try_event(&mut self.recorded, &mut self.notes, task, &event)? {
             Outcome::Made => {
                 settle(&mut self.bodies, task, new, act);
                 Ok(())
             }
             Outcome::Waits => Ok(()),
             Outcome::Refused(refusal) => {
-                let entry = refused(task, &tried, refusal);
-                try_event(&mut self.recorded, &mut self.notes, task, entry)?;
+                self.report(task, new, &act, refusal)?;
                 Ok(())
             }
         }
@@ -192,19 +260,20 @@ impl<'p> Runner<'p> {
             → RunStands p (pick p w task) self.new) }
         ensures memory { IfErr result (λ e. e ≡ NoMemory) }
     {
-        let Some(event) = self.recorded.world.next_event(task) else {
+        let next = self.recorded.world.next_event(task);
+        let Some(event) = &next else {
             return Ok(());
         };
         match try_event(&mut self.recorded, &mut self.notes, task, event)? {
             Outcome::Made => Ok(()),
             Outcome::Waits => {
                 self.notes
-                    .hold(task, &event, self.recorded.trace.len() as u64);
+                    .hold(task, event, self.recorded.trace.len() as u64);
                 Ok(())
             }
             Outcome::Refused(refusal) => {
                 let entry = WorldEvent::Fail(task, refusal.number());
-                try_event(&mut self.recorded, &mut self.notes, task, entry)?;
+                try_event(&mut self.recorded, &mut self.notes, task, &entry)?;
                 Ok(())
             }
         }

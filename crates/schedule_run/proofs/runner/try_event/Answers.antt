@@ -10,7 +10,7 @@ use Rattle.schedule_run.proofs.runner.try_event.Goals.{in-Made, in_default}
 
 pub returns-then-matches-clause-kept : goal.returns-then-matches-clause-kept
 returns-then-matches-clause-kept c l w kept own =
-    let e = c.args.event in
+    let e = c.args.event.now in
     let made : c.in_ok-outcome.outcome ≡ Made = elim c.match-matches.branch [ in-Made v ↦ v.in-Made.is | in_default v ↦ absurd (true≢false (sym c.if-matches.true ∙ v.matches-is)) ] in
     let known : Made ≡ outcome_of (reply l w e) = sym made ∙ c.in_ok-outcome.ensures.outcome l w kept.recorded in
     kept_made l w e c.make.new.self c.renew.new.self (is_kept (reply l w e) known) (c.in_ok-outcome.ensures.stands l w kept.recorded)
@@ -18,7 +18,7 @@ returns-then-matches-clause-kept c l w kept own =
 
 pub returns-else-matches-clause-kept : goal.returns-else-matches-clause-kept
 returns-else-matches-clause-kept c l w kept own =
-    let e = c.args.event in
+    let e = c.args.event.now in
     let other : c.in_ok-outcome.outcome ≡ Made → ⊥ = elim c.match-matches.branch [ in-Made v ↦ absurd (true≢false (sym v.matches-is ∙ c.if-matches.false)) | in_default v ↦ v.in_default.not-Made ] in
     let unmade : is_made (reply l w e) ≡ false = is_unmade (reply l w e) (λ h. other (c.in_ok-outcome.ensures.outcome l w kept.recorded ∙ sym h)) in
     kept_unmade l w e c.make.new.self c.forget.new.self unmade (c.in_ok-outcome.ensures.stands l w kept.recorded) (c.forget.ensures.stand l w kept.noted)

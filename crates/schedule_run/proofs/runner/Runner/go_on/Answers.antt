@@ -15,7 +15,7 @@ returns-in-Made-clause-stands c p w st busy born under =
     let t = c.args.task in
     let old = c.args.self.now in
     let e = c.in-Some.event in
-    let due : next_event p.limits t w ≡ Some e = next_due p w t old c.next_event.result st (c.next_event.ensures w st.recorded.stands) ∙ c.in-Some.is in
+    let due : next_event p.limits t w ≡ Some e = next_due p w t old c.next_event-next.result st (c.next_event-next.ensures w st.recorded.stands) ∙ c.in-Some.is in
     let known : Made ≡ outcome_of (reply p.limits w e) = sym c.in-Made.is ∙ c.in_ok-try_event.ensures.outcome p.limits w (kept_of p w old st) in
     gone_on p w t old st busy born under e due (record { recorded = c.try_event.new.recorded; bodies = old.bodies; notes = c.try_event.new.notes })
     (λ x h. not_made x (known ∙ sym h))
@@ -29,7 +29,7 @@ returns-in-Waits-clause-stands c p w st busy born under =
     let t = c.args.task in
     let old = c.args.self.now in
     let e = c.in-Some.event in
-    let due : next_event p.limits t w ≡ Some e = next_due p w t old c.next_event.result st (c.next_event.ensures w st.recorded.stands) ∙ c.in-Some.is in
+    let due : next_event p.limits t w ≡ Some e = next_due p w t old c.next_event-next.result st (c.next_event-next.ensures w st.recorded.stands) ∙ c.in-Some.is in
     let known : Waits ≡ outcome_of (reply p.limits w e) = sym c.in-Waits.is ∙ c.in_ok-try_event.ensures.outcome p.limits w (kept_of p w old st) in
     let kept = c.in_ok-try_event.ensures.kept p.limits w (kept_of p w old st) (next_is_own p w t old st busy born under e due) in
     gone_on p w t old st busy born under e due (record { recorded = c.try_event.new.recorded; bodies = old.bodies; notes = c.hold.new.self })
@@ -46,7 +46,7 @@ returns-in_ok-try_event-in-Refused-clause-stands c p w st busy born under =
     let old = c.args.self.now in
     let e = c.in-Some.event in
     let x = c.in-Refused.refusal in
-    let due : next_event p.limits t w ≡ Some e = next_due p w t old c.next_event.result st (c.next_event.ensures w st.recorded.stands) ∙ c.in-Some.is in
+    let due : next_event p.limits t w ≡ Some e = next_due p w t old c.next_event-next.result st (c.next_event-next.ensures w st.recorded.stands) ∙ c.in-Some.is in
     let v = after w e (reply p.limits w e) in
     let first : Kept p.limits v c.try_event.new.recorded c.try_event.new.notes =
     c.in_ok-try_event.ensures.kept p.limits w (kept_of p w old st) (next_is_own p w t old st busy born under e due) in
