@@ -1,10 +1,11 @@
-/* The preload by which tests/refuse_memory refuses the program its memory.
+/* The preload by which tests/refuse_memory and tests/given_up refuse the program its memory.
  *
  * It counts malloc, calloc, realloc, posix_memalign, aligned_alloc, memalign and pthread_create, which
  * takes a thread's stack, of all threads, and only from main on: what the loader and the C library take
  * before it, and what is taken after main has returned, is given. To know when main begins it stands in
- * for __libc_start_main. REFUSE_AT=N refuses the Nth alone, REFUSE_FROM=N each from the Nth on. At the
- * end of the process the count is written to the file COUNTED. */
+ * for __libc_start_main. REFUSE_AT=N refuses the Nth alone, REFUSE_FROM=N each from the Nth on. REFUSE_LARGE=S
+ * refuses each from the first on that is of S bytes or more and comes after a thread was started. At the end of
+ * the process the count is written to the file COUNTED. */
 #define _GNU_SOURCE
 #include <dlfcn.h>
 #include <errno.h>
@@ -26,24 +27,30 @@ typedef void *work(void *);
 typedef int create_function(pthread_t *, const pthread_attr_t *, work *, void *);
 typedef int start_function(main_function *, int, char **, hook *, hook *, hook *, void *);
 
-static atomic_int is_counting;
+static atomic_int is_counting, has_threads, has_refused;
 static atomic_ulong count;
-static unsigned long refused_at, refused_from;
+static unsigned long refused_at, refused_from, refused_large;
 static const char *counted;
 static main_function *own_main;
 
-static int is_refused(void) {
-  if (!atomic_load(&is_counting)) return 0;
-  unsigned long number = atomic_fetch_add(&count, 1) + 1;
-  if (number != refused_at && (!refused_from || number < refused_from)) return 0;
-  errno = ENOMEM;
-  return 1;
+/* Whether one of so many bytes is too large, or comes after one that was. */
+static int is_too_large(size_t size) {
+  if (refused_large && size >= refused_large && atomic_load(&has_threads)) atomic_store(&has_refused, 1);
+  return atomic_load(&has_refused);
 }
 
-void *malloc(size_t size) { return is_refused() ? NULL : __libc_malloc(size); }
-void *calloc(size_t items, size_t size) { return is_refused() ? NULL : __libc_calloc(items, size); }
-void *realloc(void *old, size_t size) { return is_refused() ? NULL : __libc_realloc(old, size); }
-void *memalign(size_t boundary, size_t size) { return is_refused() ? NULL : __libc_memalign(boundary, size); }
+static int is_refused(size_t size) {
+  if (!atomic_load(&is_counting)) return 0;
+  unsigned long number = atomic_fetch_add(&count, 1) + 1;
+  int is_one = number == refused_at || (refused_from && number >= refused_from) || is_too_large(size);
+  if (is_one) errno = ENOMEM;
+  return is_one;
+}
+
+void *malloc(size_t size) { return is_refused(size) ? NULL : __libc_malloc(size); }
+void *calloc(size_t items, size_t size) { return is_refused(items * size) ? NULL : __libc_calloc(items, size); }
+void *realloc(void *old, size_t size) { return is_refused(size) ? NULL : __libc_realloc(old, size); }
+void *memalign(size_t boundary, size_t size) { return is_refused(size) ? NULL : __libc_memalign(boundary, size); }
 void *aligned_alloc(size_t boundary, size_t size) { return memalign(boundary, size); }
 
 int posix_memalign(void **to, size_t boundary, size_t size) {
@@ -55,7 +62,9 @@ int posix_memalign(void **to, size_t boundary, size_t size) {
 
 int pthread_create(pthread_t *thread, const pthread_attr_t *attributes, work *start, void *argument) {
   create_function *create = (create_function *)dlsym(RTLD_NEXT, "pthread_create");
-  return is_refused() ? EAGAIN : create(thread, attributes, start, argument);
+  if (is_refused(0)) return EAGAIN;
+  atomic_store(&has_threads, 1);
+  return create(thread, attributes, start, argument);
 }
 
 static unsigned long number_of(const char *name) {
@@ -66,6 +75,7 @@ static unsigned long number_of(const char *name) {
 static int counting_main(int words, char **word, char **environment) {
   refused_at = number_of("REFUSE_AT");
   refused_from = number_of("REFUSE_FROM");
+  refused_large = number_of("REFUSE_LARGE");
   counted = getenv("COUNTED");
   atomic_store(&is_counting, 1);
   int status = own_main(words, word, environment);

@@ -1,11 +1,12 @@
 //! Bodies to copy of runs without end: a pipeline, a stencil, and a server whose tasks come and go. Each runs
 //! in the memory of what is alive at once. The words `pipeline`, `stencil` or `server` play one of them, with
 //! how many items, steps or requests; `pipeline 10000000 4` does it by 4 workers. No word plays all three, in
-//! a short form.
+//! a short form. The word `crowd`, with how many tasks, plays one that has no end: it is for `tests/given_up`.
 #![tactic(auto)]
 
 ghost use Rattle.std.specs.Prelude.{◌<◌, ◌≤◌};
 
+mod crowd;
 mod pipeline;
 mod server;
 mod stencil;
@@ -54,7 +55,8 @@ fn play<R: Threads + Wait + Sync>(
         "pipeline" => pipeline::play(rt, alloc, many, workers),
         "stencil" => stencil::play(rt, alloc, many, workers),
         "server" => server::play(rt, alloc, many, workers),
-        _ => Err(anyhow::anyhow!("say pipeline, stencil or server")),
+        "crowd" => crowd::play(rt, alloc, many, workers),
+        _ => Err(anyhow::anyhow!("say pipeline, stencil, server or crowd")),
     }
 }
 
