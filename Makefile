@@ -1,6 +1,7 @@
 # make install PREFIX=/usr/local DESTDIR=    copies the library, its headers, the program, its tools and their pages
 # make uninstall PREFIX=/usr/local DESTDIR=  takes away what any version has installed there
-# make site                                  renders the pages of a checkout and the man pages in site, by pandoc
+# make reference                             writes docs/reference: definitions and contracts, as they stand in their files
+# make site                                  renders the pages of a checkout, docs/reference and the man pages in site, by pandoc
 #
 # In an unpacked release all stands ready. In a checkout packaging/make_tree puts it together first; its head says from
 # what. Of the Rattle toolchain nothing is run.
@@ -22,7 +23,7 @@ own_files := bin/phaser_run bin/phaser-check bin/phaser-picture \
 # A checkout without a program has no libexec.
 parts = $$(ls -d bin include lib libexec share 2> /dev/null)
 
-.PHONY: help install machine site uninstall
+.PHONY: help install machine reference site uninstall
 help:
 	@sed -n 's/^# \(make .*\)/\1/p' Makefile
 
@@ -47,6 +48,9 @@ install: machine
 	    if [ -x "$$it" ]; then mode=755; else mode=644; fi; install -m $$mode "$$it" "$$to/$$it" || exit; done && \
 	  find $(parts) -type l | while read -r it; do cp -P -f "$$it" "$$to/$$it" || exit; done && \
 	  echo "installed in $$to"
+
+reference:
+	@tools/reference
 
 site:
 	@tools/site site
