@@ -1,8 +1,6 @@
 -- A task's own events that leave it alike on all its phasers: a single's claim and report, a value sent and a look.
-use Rattle.std.proofs.Common.{◌≡◌, ℕ, ◌+◌, ◌≤◌, ◌==◌, Bool, true, false, ◌&&◌, nat_le, min, cond, List, [], ◌∷◌, drop, refl, ap, ◌∙◌, arith}
-use Rattle.std.proofs.lemmas.Bool.{and_parts, leb-true}
+use Rattle.std.proofs.Common.{◌≡◌, ℕ, ◌+◌, ◌<◌, ◌≤◌, ◌^◌, ◌==◌, Bool, true, false, min, cond, List, [], ◌∷◌, drop, refl, ap, ◌∙◌, arith}
 use Rattle.std.proofs.lemmas.List.Sums.{sum_by-cons}
-use Rattle.phase_modes.specs.Limits.{limits_fit, is_between}
 use Rattle.phase_modes.specs.declared.limits.Limits.{Limits}
 use Rattle.phase_model.specs.declared.history.Event.{Event}
 use Rattle.world_model.specs.declared.event.Step.TheVariants.{Claim, Did, Send, Look}
@@ -23,7 +21,7 @@ use Rattle.world_model.proofs.SmallWords.{eq_self, empty_is}
 use Rattle.world_model.proofs.UntouchedStays.{IsAlike, alike_same, alike_single}
 use Rattle.task_standing.specs.Known.{Known}
 use Rattle.task_standing.specs.Histories.{IsOf}
-use Rattle.task_standing.specs.Laws.{SinglesLeave, SendsAreActs, LooksAreActs}
+use Rattle.task_standing.specs.Laws.{ActsFit, SinglesLeave, SendsAreActs, LooksAreActs}
 use Rattle.task_standing.proofs.Kept.{holding_kept, phasers_like}
 
 -- a single's claim and report leave all
@@ -57,31 +55,16 @@ singles_leave = record {
       };
 }
 
-acts_fit : (l : Limits) → limits_fit l ≡ true → l.acts ≤ 65536
-acts_fit l k =
-    let a = is_between 1 l.acts 65536 in
-    let b = is_between 1 l.finishes 1024 in
-    let c = is_between 4 l.history 65536 in
-    let d = is_between 1 l.phasers 64 in
-    let e = is_between 1 l.regs 256 in
-    let f = is_between 1 l.tasks 4096 in
-    let k5 = and_parts (a && b && c && d && e) f k in
-    let k4 = and_parts (a && b && c && d) e k5.0 in
-    let k3 = and_parts (a && b && c) d k4.0 in
-    let k2 = and_parts (a && b) c k3.0 in
-    let k1 = and_parts a b k2.0 in
-    leb-true l.acts 65536 (and_parts (nat_le 1 l.acts) (nat_le l.acts 65536) k1.0).1
-
 -- an act that is counted is one more, and the count is within its type
-pub one_act_more : (l : Limits) (e : WorldEvent) (w : List WorldEvent) (k : Known) → limits_fit l ≡ true
+pub one_act_more : (l : Limits) (e : WorldEvent) (w : List WorldEvent) (k : Known) → ActsFit l
     → is_legal_world l (e ∷ w) ≡ true → is_act k.number e ≡ true → IsOf w k
-    → min (k.acts + 1) 4294967295 ≡ acts k.number (e ∷ w)
+    → min (k.acts + 1) 18446744073709551615 ≡ acts k.number (e ∷ w)
 one_act_more l e w k fit legal act st =
     let now : acts k.number (e ∷ w) ≡ 1 + acts k.number w =
     sum_by-cons (λ d. cond (is_act k.number d) 1 0) e w ∙ ap (λ b. cond b 1 0 + acts k.number w) act in
-    least k.acts (acts k.number w) (acts k.number (e ∷ w)) l.acts st.acts now (acts_within l (e ∷ w) legal k.number) (acts_fit l fit)
+    least k.acts (acts k.number w) (acts k.number (e ∷ w)) l.acts st.acts now (acts_within l (e ∷ w) legal k.number) fit
   where
-    least : (x y z i : ℕ) → x ≡ y → z ≡ 1 + y → z ≤ i → i ≤ 65536 → min (x + 1) 4294967295 ≡ z
+    least : (x y z i : ℕ) → x ≡ y → z ≡ 1 + y → z ≤ i → i < 2 ^ 64 → min (x + 1) 18446744073709551615 ≡ z
     least x y z i e f g h = omega (arith, e, f, g, h)
 
 -- who tries an act has nothing due, and has nothing after it if it is of one event

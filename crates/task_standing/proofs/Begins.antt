@@ -120,9 +120,9 @@ module _ (w : List WorldEvent) (k : Known) (st : IsOf w k) where
 
 module _ (l : Limits) (w : List WorldEvent) (k : Known) where
   -- an act that is counted
-  counted : (b : Begun) → min (k.acts + 1) 4294967295 ≡ acts k.number (Begin k.number b ∷ w) → IsOf w k
-      → planned k (plan_of b) ≡ planned (record k { plan = plan_of b; acts = min (k.acts + 1) 4294967295 }) (plan_of b)
-      → IsAbout (Begin k.number b ∷ w) (record k { plan = plan_of b; acts = min (k.acts + 1) 4294967295 })
+  counted : (b : Begun) → min (k.acts + 1) 18446744073709551615 ≡ acts k.number (Begin k.number b ∷ w) → IsOf w k
+      → planned k (plan_of b) ≡ planned (record k { plan = plan_of b; acts = min (k.acts + 1) 18446744073709551615 }) (plan_of b)
+      → IsAbout (Begin k.number b ∷ w) (record k { plan = plan_of b; acts = min (k.acts + 1) 18446744073709551615 })
   counted b more st same = record {
     of = record { holding = st.holding; finishes = st.finishes; home = st.home; acts = more };
     due_is = rw (eq_self k.number) (fixed_here w k st b ∙ same);

@@ -2,7 +2,6 @@
 use Rattle.std.proofs.Common.{◌≡◌, ℕ, ◌==◌, true, false, cond, List, ◌∷◌, refl, sym, ap, subst, ◌∙◌, inl, inr}
 use Rattle.std.proofs.lemmas.Bool.{cases_Bool, eqb-true, eq-eqb, and_from, true≢false, false_from_ne_true}
 use Rattle.phase_modes.specs.declared.limits.Limits.{Limits}
-use Rattle.phase_modes.specs.Limits.{limits_fit}
 use Rattle.finish_core.specs.declared.event.FinishEvent.TheVariants.{Opened, Spawned, Ended, Shut as Shutting}
 use Rattle.world_model.specs.declared.event.Step.TheVariants.{Make, Reg, Sig, Claim, Did, Pass, Send, Look, Drop}
 use Rattle.world_model.specs.declared.event.WorldEvent.{WorldEvent}
@@ -18,7 +17,7 @@ use Rattle.task_standing.specs.declared.plan.Plan.TheVariants as plan
 use Rattle.task_standing.specs.Known.{Known}
 use Rattle.task_standing.specs.StillToMake.{planned}
 use Rattle.task_standing.specs.Histories.{IsAbout}
-use Rattle.task_standing.specs.Laws.{NamesFew}
+use Rattle.task_standing.specs.Laws.{ActsFit, NamesFew}
 use Rattle.task_standing.specs.Noted.{noted}
 use Rattle.task_standing.specs.AfterEvents.{fails_alone, EventsAreNoted}
 use Rattle.task_standing.proofs.Alike.{singles_leave, sends_are_acts, looks_are_acts}
@@ -42,7 +41,7 @@ no_child_drop k c (plan.Spawning d pairs made) o = spawning_not (drops_child c) 
 no_child_drop k c plan.Shutting o = shutting_not (drops_child c) k (λ n. o) (λ f. refl)
 no_child_drop k c plan.Ending o = ending_not (drops_child c) k (λ n. o) (λ f. refl) (λ f u. refl)
 
-module _ (l : Limits) (w : List WorldEvent) (k : Known) (fit : limits_fit l ≡ true) (born : is_born k.number w ≡ true)
+module _ (l : Limits) (w : List WorldEvent) (k : Known) (fit : ActsFit l) (born : is_born k.number w ≡ true)
     (few : NamesFew k.plan) (st : IsAbout w k) where
   -- a drop that it makes is its own
   drops_itself : (n u : ℕ) → is_legal_world l (Phaser n (Drop u) ∷ w) ≡ true → actor w (Phaser n (Drop u)) ≡ k.number → u ≡ k.number

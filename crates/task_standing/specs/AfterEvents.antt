@@ -1,7 +1,6 @@
 -- What a task knows after any event.
 use Rattle.std.specs.Prelude.{ℕ, Bool, ◌≡◌, true, false, ◌==◌, if◌then◌else◌, List, [], ◌∷◌, ◌++◌}
 use Rattle.std.specs.List.{list_any}
-use Rattle.phase_modes.specs.Limits.{limits_fit}
 use Rattle.phase_modes.specs.declared.limits.Limits.{Limits}
 use Rattle.world_model.specs.declared.event.WorldEvent.{WorldEvent}
 use Rattle.world_model.specs.declared.event.WorldEvent.TheVariants.{Fail}
@@ -11,7 +10,7 @@ use Rattle.world_model.specs.Tasks.{is_born, ends, is_ended}
 use Rattle.task_standing.specs.Known.{Known}
 use Rattle.task_standing.specs.Noted.{noted}
 use Rattle.task_standing.specs.Histories.{IsAbout}
-use Rattle.task_standing.specs.Laws.{NamesFew, named_child}
+use Rattle.task_standing.specs.Laws.{ActsFit, NamesFew, named_child}
 
 -- if the event is that it gives up, its plan names no child
 abbrev pub fails_alone : WorldEvent → Known → Type 0
@@ -25,7 +24,7 @@ known_after e w k = if actor w e == k.number then noted e k else k
 -- all rows at once: after any event but its end it knows what the history says, if it doesn't give up beside a child
 -- that was never born
 abbrev pub EventsAreNoted : Type 0
-EventsAreNoted = (l : Limits) (e : WorldEvent) (w : List WorldEvent) (k : Known) → limits_fit l ≡ true
+EventsAreNoted = (l : Limits) (e : WorldEvent) (w : List WorldEvent) (k : Known) → ActsFit l
     → is_legal_world l (e ∷ w) ≡ true → is_born k.number w ≡ true → NamesFew k.plan
     → ends k.number e ≡ false → fails_alone e k → IsAbout w k → IsAbout (e ∷ w) (known_after e w k)
 
@@ -46,7 +45,7 @@ gives_up t _ = false
 
 -- who knows what the history says, and notes each event of its own, knows so until it ends or gives up
 abbrev pub NotesStayTrue : Type 0
-NotesStayTrue = (l : Limits) (w : List WorldEvent) (k : Known) → limits_fit l ≡ true → is_born k.number w ≡ true
+NotesStayTrue = (l : Limits) (w : List WorldEvent) (k : Known) → ActsFit l → is_born k.number w ≡ true
     → NamesFew k.plan → IsAbout w k
     → (es : List WorldEvent) → is_legal_world l (es ++ w) ≡ true → is_ended k.number (es ++ w) ≡ false
     → list_any (gives_up k.number) es ≡ false → IsAbout (es ++ w) (known_later es w k)

@@ -1,7 +1,6 @@
 -- What a task knows stays what the history says of it, event by event. In each law the history is legal with its new
 -- event.
-use Rattle.std.specs.Prelude.{ℕ, ◌≡◌, true, false, ◌==◌, List, ◌∷◌, map, Option, ℤ, filter, not, drop, [], ◌++◌, length, ◌≤◌}
-use Rattle.phase_modes.specs.Limits.{limits_fit}
+use Rattle.std.specs.Prelude.{ℕ, ◌≡◌, true, false, ◌==◌, ◌<◌, ◌^◌, List, ◌∷◌, map, Option, ℤ, filter, not, drop, [], ◌++◌, length, ◌≤◌}
 use Rattle.phase_modes.specs.declared.limits.Limits.{Limits}
 use Rattle.phase_modes.specs.declared.reg.Mode.{Mode}
 use Rattle.phase_model.specs.declared.terms.Terms.{Terms}
@@ -48,15 +47,18 @@ pub record SinglesLeave : Type 0 where
   pub reports : (l : Limits) (w : List WorldEvent) (k : Known) (n : ℕ)
       → is_legal_world l (Phaser n (Did k.number) ∷ w) ≡ true → IsAbout w k → IsAbout (Phaser n (Did k.number) ∷ w) k
 
--- a value that it sends and a look are an act more each, of which nothing is left; here and below the limits are such
--- that a run may have
+-- a count of 64 bits holds each act that a task may begin under these limits
+abbrev pub ActsFit : Limits → Type 0
+ActsFit l = l.acts < 2 ^ 64
+
+-- a value that it sends and a look are an act more each, of which nothing is left; here and below the acts fit
 abbrev pub SendsAreActs : Type 0
-SendsAreActs = (l : Limits) (w : List WorldEvent) (k : Known) (n i : ℕ) (v : ℤ) → limits_fit l ≡ true
+SendsAreActs = (l : Limits) (w : List WorldEvent) (k : Known) (n i : ℕ) (v : ℤ) → ActsFit l
     → is_legal_world l (Phaser n (Send k.number i v) ∷ w) ≡ true → IsAbout w k
     → IsAbout (Phaser n (Send k.number i v) ∷ w) (acted k)
 
 abbrev pub LooksAreActs : Type 0
-LooksAreActs = (l : Limits) (w : List WorldEvent) (k : Known) (n i : ℕ) → limits_fit l ≡ true
+LooksAreActs = (l : Limits) (w : List WorldEvent) (k : Known) (n i : ℕ) → ActsFit l
     → is_legal_world l (Phaser n (Look k.number i) ∷ w) ≡ true → IsAbout w k
     → IsAbout (Phaser n (Look k.number i) ∷ w) (acted k)
 
@@ -68,7 +70,7 @@ LeavesLeave = (l : Limits) (w : List WorldEvent) (k : Known) (n : ℕ)
 
 -- a finish that it opens is its innermost: an act more, of which nothing is left
 abbrev pub OpeningsOpen : Type 0
-OpeningsOpen = (l : Limits) (w : List WorldEvent) (k : Known) (f : ℕ) → limits_fit l ≡ true
+OpeningsOpen = (l : Limits) (w : List WorldEvent) (k : Known) (f : ℕ) → ActsFit l
     → is_legal_world l (Finish f (Opened k.number) ∷ w) ≡ true → IsAbout w k
     → IsAbout (Finish f (Opened k.number) ∷ w) (record (acted k) { finishes = f ∷ k.finishes })
 
@@ -86,7 +88,7 @@ BirthsEndSpawns = (l : Limits) (w : List WorldEvent) (k : Known) (f c : ℕ)
 
 -- a phaser that it makes is held last, in its innermost finish: an act more, of which nothing is left
 abbrev pub MakingsHold : Type 0
-MakingsHold = (l : Limits) (w : List WorldEvent) (k : Known) (n : ℕ) (m : Mode) (terms : Terms) → limits_fit l ≡ true
+MakingsHold = (l : Limits) (w : List WorldEvent) (k : Known) (n : ℕ) (m : Mode) (terms : Terms) → ActsFit l
     → is_legal_world l (Phaser n (Make k.number m terms) ∷ w) ≡ true → IsAbout w k
     → IsAbout (Phaser n (Make k.number m terms) ∷ w) (record (acted k) {
       holding = k.holding ++ record { phaser = n; finish = inner_of k; mode = m; ahead = false } ∷ [];
@@ -105,7 +107,7 @@ RegistrationsRegister = (l : Limits) (w : List WorldEvent) (k : Known) (n c : �
 
 -- an act that it begins goes on by its plan
 abbrev pub BeginsBegin : Type 0
-BeginsBegin = (l : Limits) (w : List WorldEvent) (k : Known) (b : Begun) → limits_fit l ≡ true
+BeginsBegin = (l : Limits) (w : List WorldEvent) (k : Known) (b : Begun) → ActsFit l
     → is_legal_world l (Begin k.number b ∷ w) ≡ true → IsAbout w k → IsAbout (Begin k.number b ∷ w) (begun (plan_of b) k)
 
 -- an act that is refused brings it to its end, whatever it was about

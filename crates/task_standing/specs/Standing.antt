@@ -31,7 +31,7 @@ inner_of k = slice_index_or k.finishes 0 k.home
 
 -- so many acts more; they are counted up to their type's greatest number, which no limit reaches
 abbrev pub counted_by : ℕ → Known → Known
-counted_by n k = record k { acts = min (k.acts + n) 4294967295 }
+counted_by n k = record k { acts = min (k.acts + n) 18446744073709551615 }
 
 -- an act of one event is made, of which nothing is left
 abbrev pub acted : Known → Known

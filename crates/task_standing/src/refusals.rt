@@ -135,7 +135,7 @@ impl Standing {
     fn may_try_now(&self, limits: Limits, tried: &Tried) -> Result<(), Refusal>
         ensures { result ≡ free_unless (first_refusal (try_conditions limits self.now tried.now)) }
     {
-        if !matches!(tried, Tried::Begun(Begun::End)) && self.acts >= limits.acts {
+        if !matches!(tried, Tried::Begun(Begun::End)) && self.acts >= u64::from(limits.acts) {
             return Err(Refusal::ActsFull);
         }
         self.may_make(limits, tried)

@@ -24,7 +24,7 @@ pub struct Standing {
     /// The finish in which it was spawned.
     pub(crate) home: u32,
     /// How many acts it has begun, its end aside.
-    pub(crate) acts: u32,
+    pub(crate) acts: u64,
 }
 
 impl Model for Standing {
