@@ -1,12 +1,12 @@
-/* The functions of the headers as symbols of a shared library, for programs that can't include C: Python, Go, C#, dlopen.
- * paldwosk_so_NAME is paldwosk_NAME of the header: it takes, answers and asks for the same. A mode, an operator, an
+/* The functions of the headers as symbols, for programs that can't include C. The shared library has them for Python, Go, C#
+ * and dlopen; libpaldwosk.a has them for the Rust crate, whose calls that wait are these. paldwosk_so_NAME is paldwosk_NAME of the header: it takes, answers and asks for the same. A mode, an operator, an
  * answer and a status are numbers of 32 bits.
  *
  * Memory for a barrier has to be zeroed, aligned to 16 and paldwosk_so_barrier_size() bytes long. A task is a
  * pointer, a number of 64 bits and one of 32. A barrier is used by these functions alone, or by those of one header
  * alone.
  *
- * Tested by tests/packages and tests/python_package, not proved. */
+ * Tested by tests/packages, tests/python_package and the tests of the Rust crate, not proved. */
 #include "paldwosk_barrier.h"
 
 #pragma GCC visibility push(default)
