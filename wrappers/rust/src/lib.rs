@@ -17,39 +17,29 @@
 //! threads that wait that is: what a call is answered, which tasks it frees and with which answer, and that each task that
 //! stays parked still has to wait. So no task is forgotten.
 //!
-//! A phase whose turns [take no lock](Phaser#when-a-turn-takes-no-lock) is made by one call of the archive. It says that each
-//! task has ended its turn before any thread is let go. So are all phases of a [`Barrier`].
+//! A [`Phaser`] and a [`Barrier`] call these exports by the barrier in C, `include/paldwosk_barrier.h`, which is compiled into
+//! the library. It counts the tasks that come, has their threads spin, yield and sleep, and wakes them. It locks the calls, and
+//! notes a trace and which tasks are missing. Its head says what of this is proved. The rest is tested, from C and from here.
 //!
-//! Nothing in this crate is proved; it is tested. For a [`Phaser`] and a [`Barrier`] that is the counting of those who come, the
-//! spinning, yielding and sleeping, and the waking of those who are let go. For a [`Phaser`] it is also the lock round each
-//! call, each change between counting and locking, and the noting of a trace and of who is missing.
+//! Nothing in this crate itself is proved; it is tested. It hands each call on. The `unsafe` code passes on what Rust's own types
+//! promise: slices and places that nothing else has, and a task that is lent to one call at a time. The memory of a barrier
+//! isn't moved, and is freed after its last task.
 //!
-//! The `unsafe` code passes on what Rust's own types promise: slices and places that nothing else has, and a task that is lent
-//! to one call at a time. Besides, it lends the archive's phaser to the one thread that has it by the count or by the lock, and
-//! hands a word to Linux to sleep by.
+//! # Forks and signals
+//!
+//! In a child of `fork` each call on a [`Phaser`] of its parent or on its tasks panics, and a [`Task`] that is dropped does
+//! nothing. The child makes no call on a [`Barrier`] of its parent, because threads that it doesn't have may hold the places. It
+//! may make its own. A child of `_Fork` isn't known as one: it makes no call. Nor does a signal handler.
 #![deny(missing_docs, unsafe_op_in_unsafe_fn)]
 
 mod answers;
 mod barrier;
-mod bell;
 mod checker;
-mod folds;
-mod held;
 mod judge;
-mod level;
-mod members;
 mod phaser;
 mod phaser_state;
-mod rounds;
 mod scope;
-mod seats;
 mod shared;
-mod sign;
-mod spins;
-mod trace;
-mod waiting_cell;
-mod waits;
-mod yields;
 
 use paldwosk_sys as archive;
 

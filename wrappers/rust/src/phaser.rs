@@ -1,11 +1,8 @@
 //! A phaser for threads that wait.
 use crate::answers::{Look, Mode, Operator, Refusal};
-use crate::held::{Call, Place};
-use crate::shared::{ended, Shared};
-use crate::trace::Trace;
-use crate::waiting_cell::Ended;
-use crate::waits::Patience;
+use crate::shared::{Call, Member, Outcome, Shared};
 use std::fmt;
+use std::panic::resume_unwind;
 use std::sync::Arc;
 use std::time::Duration;
 
@@ -63,11 +60,11 @@ impl Phaser {
     /// producers and consumers it is the length of the queue. All memory that it will ever need is taken here.
     /// `BadOperators`, `BadBound`, `Memory`.
     pub fn new(bound: u32, operators: &[Operator]) -> Result<Phaser, Refusal> {
-        Ok(Phaser { shared: Arc::new(Shared::new(bound, operators, false)?) })
+        Ok(Phaser { shared: Shared::new(bound, operators, false)? })
     }
 
     /// The same, and its run is traced: [`trace`](Phaser::trace) gives it as a text that [`replay`](crate::replay) judges.
-    /// Each call costs somewhat more by that, and each event some bytes.
+    /// Each call costs somewhat more by that, and the phaser takes 1 MB more.
     ///
     /// ```
     /// # use paldwosk::{replay, Mode, Phaser, Refusal};
@@ -82,19 +79,21 @@ impl Phaser {
     /// # }
     /// ```
     pub fn traced(bound: u32, operators: &[Operator]) -> Result<Phaser, Refusal> {
-        Ok(Phaser { shared: Arc::new(Shared::new(bound, operators, true)?) })
+        Ok(Phaser { shared: Shared::new(bound, operators, true)? })
     }
 
     /// Makes the phaser: its first task, in this mode, in phase 0. `NotNow` if it was made before.
     pub fn make(&self, mode: Mode) -> Result<Task, Refusal> {
-        let place = self.shared.make(mode)?;
-        Ok(Task { shared: self.shared.clone(), place, mode, phase: 0, unfinished: None })
+        Ok(Task { member: self.shared.make(mode)?, mode, phase: 0, unfinished: None })
     }
 
     /// Who keeps others waiting: the numbers of these tasks, the least first. Such a task hasn't signalled a phase that others
     /// wait for, or it runs a single. Or the bound holds back a signal until this task has waited. A task that waits itself
     /// isn't among them, and nobody is if nobody waits. The call looks at all tasks: it is for finding a fault, not for each
     /// phase.
+    ///
+    /// A program that is run with `PALDWOSK_WATCH=5` in its environment tells the same by itself: a thread that waits for more
+    /// than 5 seconds writes a line to standard error. Threads don't spin then.
     ///
     /// ```
     /// # use paldwosk::{Mode, Phaser, Refusal};
@@ -121,7 +120,7 @@ impl Phaser {
     /// text alone, and all before them are those that were made, each in its order. The end of a task that is still there is
     /// a refusal that no call is answered: a report has `task 1 refused 21 NoFinish` for it, in place of `task 1 ended`.
     pub fn trace(&self) -> String {
-        self.shared.trace().map_or(String::new(), Trace::text)
+        self.shared.trace()
     }
 
     /// Whether the trace has ended before the run, since it has room for 60,000 events of the phaser, and for tasks of numbers
@@ -168,6 +167,8 @@ impl fmt::Debug for Phaser {
 /// call of the same name, with a time or without, waits for the same answer, and doesn't signal once more. Until then each
 /// other `signal`, `wait`, `next` and `single` of the task is refused by `NotNow`. It may send, look, join and leave.
 ///
+/// A time is counted in whole milliseconds: a part of one counts as one.
+///
 /// A `single` has no form with a time, because a task can't leave a single behind that it has proposed.
 ///
 /// ```
@@ -201,19 +202,24 @@ impl fmt::Debug for Phaser {
 /// ```
 #[must_use = "a task that is dropped leaves its phaser at once"]
 pub struct Task {
-    shared: Arc<Shared>,
-    place: Place,
+    member: Member,
     mode: Mode,
     phase: u64,
-    /// The call whose time is over, and whose answer it hasn't been given.
-    unfinished: Option<Call>,
+    unfinished: Option<Unfinished>,
+}
+
+/// A call whose time is over, and whose answer its task hasn't been given.
+struct Unfinished {
+    call: Call,
+    /// The answer, if it was asked for meanwhile and has come.
+    outcome: Option<Outcome>,
 }
 
 impl Task {
     /// The number of the task. No other task of the phaser has it or had it.
     #[must_use]
     pub fn number(&self) -> u64 {
-        self.place.task
+        self.member.number()
     }
 
     /// The mode in which the task was made or joined. It stays the same.
@@ -250,48 +256,71 @@ impl Task {
         self.phase
     }
 
-    /// The task has ended a turn, and goes on with the phase after it. A task that proposed no single claims none.
-    fn passed(&mut self, ended: Ended) -> u64 {
-        match ended {
-            Ended::Done(phase) => {
-                self.phase = phase + 1;
-                phase
-            }
-            Ended::Claimed => unreachable!("a task claims a single that it didn't propose"),
+    /// The task has ended a turn, and goes on with the phase after it.
+    fn passed(&mut self, outcome: Outcome) -> Outcome {
+        if let Ok(phase) = outcome {
+            self.phase = phase + 1;
         }
+        outcome
     }
 
     /// A new task, in a mode within this one's. It begins where this one stands: in its phase, and with its signal if it has
     /// signalled. `MoreThanParent`, `RegsFull` if there are 256 tasks, `HistoryFull`.
     pub fn join(&mut self, mode: Mode) -> Result<Task, Refusal> {
-        let (place, phase) = self.shared.join(self.place, mode)?;
-        Ok(Task { shared: self.shared.clone(), place, mode, phase, unfinished: None })
+        loop {
+            let phase = self.stands_in();
+            let child = Task { member: self.member.join(mode)?, mode, phase, unfinished: None };
+            if self.stands_in() == phase {
+                return Ok(child);
+            }
+            // A turn that goes on has ended meanwhile. Nobody knows in which phase the child has joined: it leaves for another.
+        }
     }
 
-    /// Makes a call, or goes on with the same one, whose time was over. None if the time is over, once more.
-    fn call_in_time(&mut self, call: Call, patience: Patience) -> Result<Option<Ended>, Refusal> {
-        let outcome = match self.unfinished {
-            None => self.shared.call(self.place, self.phase, call, patience),
-            Some(unfinished) if unfinished == call => self.shared.go_on(self.place, patience),
-            Some(_) => return Err(Refusal::NotNow),
+    /// The phase in which the task stands, also if a turn that goes on has ended, and it hasn't been told.
+    fn stands_in(&mut self) -> u64 {
+        let Some(unfinished) = self.unfinished.as_mut().filter(|it| it.call != Call::Signal) else { return self.phase };
+        let member = &mut self.member;
+        let outcome = unfinished.outcome.or_else(|| member.call_for(unfinished.call, Duration::ZERO));
+        unfinished.outcome = outcome;
+        outcome.and_then(Result::ok).map_or(self.phase, |phase| phase + 1)
+    }
+
+    /// Makes a call.
+    fn call(&mut self, call: Call) -> Outcome {
+        match self.answered(call)? {
+            Some(outcome) => outcome,
+            None => self.member.call(call),
+        }
+    }
+
+    /// The same, but it waits for so long at most: None if the time is over, once more.
+    fn call_in_time(&mut self, call: Call, most: Duration) -> Option<Outcome> {
+        let outcome = match self.answered(call) {
+            Ok(outcome) => outcome.or_else(|| self.member.call_for(call, most)),
+            Err(refusal) => return Some(Err(refusal)),
         };
-        self.unfinished = outcome.is_none().then_some(call);
-        outcome.transpose()
+        self.unfinished = outcome.is_none().then_some(Unfinished { call, outcome: None });
+        outcome
     }
 
-    fn call(&mut self, call: Call) -> Result<Ended, Refusal> {
-        ended(self.call_in_time(call, Patience::Endless).transpose())
-    }
-
-    fn passes_in_time(&mut self, call: Call, patience: Patience) -> Result<Option<u64>, Refusal> {
-        Ok(self.call_in_time(call, patience)?.map(|ended| self.passed(ended)))
+    /// The answer of the call that goes on, if it is this one and has its answer. `NotNow` if it is another.
+    fn answered(&mut self, call: Call) -> Result<Option<Outcome>, Refusal> {
+        match self.unfinished.take() {
+            Some(other) if other.call != call => {
+                self.unfinished = Some(other);
+                Err(Refusal::NotNow)
+            }
+            unfinished => Ok(unfinished.and_then(|it| it.outcome)),
+        }
     }
 
     /// Signals, and waits until every task that signals has signalled: the end of a turn, as at a barrier. Returns the phase
     /// that it passed. A task that only signals waits for the bound alone. `NoSignal`, `AlreadySignalled`, `HistoryFull`.
     #[allow(clippy::should_implement_trait)] // a phaser's own word, and no iterator's
     pub fn next(&mut self) -> Result<u64, Refusal> {
-        self.call(Call::Turn(None)).map(|ended| self.passed(ended))
+        let outcome = self.call(Call::Next);
+        self.passed(outcome)
     }
 
     /// The same, but it waits for so long at most: `None` if the time is over. Then the task has signalled, or does so once the
@@ -314,12 +343,12 @@ impl Task {
     /// # }
     /// ```
     pub fn next_timeout(&mut self, timeout: Duration) -> Result<Option<u64>, Refusal> {
-        self.passes_in_time(Call::Turn(None), Patience::of(timeout))
+        self.call_in_time(Call::Next, timeout).map(|outcome| self.passed(outcome)).transpose()
     }
 
     /// The same, but it doesn't wait: `None` if it would have to.
     pub fn try_next(&mut self) -> Result<Option<u64>, Refusal> {
-        self.passes_in_time(Call::Turn(None), Patience::None)
+        self.next_timeout(Duration::ZERO)
     }
 
     /// Signals its phase, and goes on. It waits for the bound alone. `NoSignal`, `AlreadySignalled`, `HistoryFull`.
@@ -330,29 +359,30 @@ impl Task {
     /// The same, but it waits for so long at most. Whether it has signalled; if it hasn't, it does so once the bound lets it,
     /// and its next `signal` waits for that ([more](Task#calls-with-a-time)). Besides, `NotNow` if another call goes on.
     pub fn signal_timeout(&mut self, timeout: Duration) -> Result<bool, Refusal> {
-        Ok(self.call_in_time(Call::Signal, Patience::of(timeout))?.is_some())
+        Ok(self.call_in_time(Call::Signal, timeout).transpose()?.is_some())
     }
 
     /// The same, but it doesn't wait. Whether it has signalled.
     pub fn try_signal(&mut self) -> Result<bool, Refusal> {
-        Ok(self.call_in_time(Call::Signal, Patience::None)?.is_some())
+        self.signal_timeout(Duration::ZERO)
     }
 
     /// Waits until every task that signals, itself first, has signalled the phase. Returns the phase that it passed. A task
     /// that only signals doesn't wait, and ends its turn. `NotSignalled`, `HistoryFull`.
     pub fn wait(&mut self) -> Result<u64, Refusal> {
-        self.call(Call::Pass).map(|ended| self.passed(ended))
+        let outcome = self.call(Call::Wait);
+        self.passed(outcome)
     }
 
     /// The same, but it waits for so long at most: `None` if the time is over. Then its next `wait` waits for the same answer
     /// ([more](Task#calls-with-a-time)). Besides, `NotNow` if another call goes on.
     pub fn wait_timeout(&mut self, timeout: Duration) -> Result<Option<u64>, Refusal> {
-        self.passes_in_time(Call::Pass, Patience::of(timeout))
+        self.call_in_time(Call::Wait, timeout).map(|outcome| self.passed(outcome)).transpose()
     }
 
     /// The same, but it doesn't wait: the phase if it is over, else `None`.
     pub fn try_wait(&mut self) -> Result<Option<u64>, Refusal> {
-        self.passes_in_time(Call::Pass, Patience::None)
+        self.wait_timeout(Duration::ZERO)
     }
 
     /// Signals, proposes the statement of this number, and waits. One of the tasks that propose it runs its statement, alone,
@@ -362,29 +392,27 @@ impl Task {
     /// The statement runs without any lock held, and may use whatever else it likes, other phasers too. If it panics, the turn
     /// ends as if it were done: the others go on, and aren't told.
     pub fn single(&mut self, number: u32, statement: impl FnOnce()) -> Result<u64, Refusal> {
-        match self.call(Call::Turn(Some(number)))? {
-            Ended::Claimed => {
-                let mut reported = Err(Refusal::NotNow);
-                {
-                    let _claim = Claim { task: self, reported: &mut reported };
-                    statement();
-                }
-                reported
-            }
-            ended => Ok(self.passed(ended)),
+        if self.unfinished.is_some() {
+            return Err(Refusal::NotNow);
+        }
+        let (outcome, panic) = self.member.single(number, statement);
+        let outcome = self.passed(outcome);
+        match panic {
+            None => outcome,
+            Some(panic) => resume_unwind(panic),
         }
     }
 
     /// Sends a value to an accumulator. It counts for the phase that the task hasn't signalled yet. `NoSignal`,
     /// `NoAccumulator`, `HistoryFull`.
     pub fn send(&mut self, accumulator: u8, value: i32) -> Result<(), Refusal> {
-        self.shared.send(self.place, accumulator, value)
+        self.member.send(accumulator, value)
     }
 
     /// What an accumulator holds of the phase before the task's own. `NoWait`, `NoAccumulator`, `NoPhaseYet`, `HistoryFull`;
     /// `TooGreat` if it isn't within an `i64`.
     pub fn look(&mut self, accumulator: u8) -> Result<Look, Refusal> {
-        self.shared.look(self.place, self.phase, accumulator)
+        self.member.look(accumulator)
     }
 
     /// Leaves: no task waits for this one any more. What it sent still counts.
@@ -395,26 +423,6 @@ impl Task {
 
 impl fmt::Debug for Task {
     fn fmt(&self, f: &mut fmt::Formatter<'_>) -> fmt::Result {
-        f.debug_struct("Task").field("number", &self.place.task).finish_non_exhaustive()
-    }
-}
-
-impl Drop for Task {
-    fn drop(&mut self) {
-        // It is registered, and none of its singles is open: so it is never refused. A call that goes on ends by it.
-        let left = self.shared.leave(self.place);
-        debug_assert!(left.is_ok(), "{left:?}");
-    }
-}
-
-/// A claimed single whose statement runs. Its end reports it done, also if it panics: else no task would go on.
-struct Claim<'a> {
-    task: &'a mut Task,
-    reported: &'a mut Result<u64, Refusal>,
-}
-
-impl Drop for Claim<'_> {
-    fn drop(&mut self) {
-        *self.reported = self.task.shared.report(self.task.place).map(|ended| self.task.passed(ended));
+        f.debug_struct("Task").field("number", &self.number()).finish_non_exhaustive()
     }
 }

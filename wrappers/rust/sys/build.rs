@@ -3,13 +3,13 @@
 //! 1. `libpaldwosk.a` or `libphaser_c.a` in the folder `PALDWOSK_ARCHIVE`;
 //! 2. what `pkg-config` names for `paldwosk`;
 //! 3. `vendor/x86_64-unknown-linux-gnu/libpaldwosk.a` in this package;
-//! 4. what `tools/build_program phaser_c` makes in the checkout.
+//! 4. the `libphaser_c.a` that `tools/build_program phaser_c` makes in the checkout.
 //!
-//! A `libpaldwosk.a` is whole. With a `libphaser_c.a` goes the toolchain's archive by which it calls malloc. That stands in
-//! the folder `RATTLE_C`, or in the folder `c` of the kit whose command `rt` is on the PATH.
+//! A `libpaldwosk.a` is whole. Of a `libphaser_c.a` the checkout's `tools/whole_archive` makes one here. For that it needs a C
+//! compiler, and the toolchain's archive from the folder `RATTLE_C` or of the kit whose command `rt` is on the PATH.
 //!
 //! If there is nothing to link a warning says why. Only what links fails then: `cargo check` and `cargo doc` go on.
-use std::env::{split_paths, var, var_os};
+use std::env::{var, var_os};
 use std::path::{Path, PathBuf};
 use std::process::Command;
 
@@ -21,7 +21,7 @@ type Lines = Result<Vec<String>, String>;
 
 fn main() {
     println!("cargo::rerun-if-changed=build.rs");
-    for name in ["PALDWOSK_ARCHIVE", "RATTLE_C", "PKG_CONFIG_PATH", "PKG_CONFIG_LIBDIR"] {
+    for name in ["PALDWOSK_ARCHIVE", "RATTLE_C", "CC", "AR", "PKG_CONFIG_PATH", "PKG_CONFIG_LIBDIR"] {
         println!("cargo::rerun-if-env-changed={name}");
     }
     match linked() {
@@ -44,61 +44,64 @@ fn linked() -> Lines {
     // As it is now: the same script is run for a package that was moved.
     let package = PathBuf::from(var_os("CARGO_MANIFEST_DIR").unwrap_or_default());
     if let Some(folder) = var_os("PALDWOSK_ARCHIVE") {
-        let found = whole(Path::new(&folder)).map(Ok).or_else(|| with_toolchain(Path::new(&folder)));
+        let found = whole(Path::new(&folder)).map(Ok).or_else(|| made_whole(Path::new(&folder), &package));
         let fault = || format!("there is no libpaldwosk.a or libphaser_c.a in the folder PALDWOSK_ARCHIVE, {folder:?}");
         return found.unwrap_or_else(|| Err(fault()));
     }
     installed()
         .or_else(|| whole(&package.join("vendor").join(TARGET)).map(Ok))
-        .or_else(|| with_toolchain(&package.join("../../../crates/phaser_c/out")))
+        .or_else(|| made_whole(&package.join("../../../crates/phaser_c/out"), &package))
         .unwrap_or_else(|| Err(NOTHING_TO_LINK.to_string()))
 }
 
 const NOTHING_TO_LINK: &str = "paldwosk finds no archive to link: install one that `pkg-config --libs paldwosk` names, \
     or set PALDWOSK_ARCHIVE to the folder of libpaldwosk.a, or in a checkout make it by `tools/build_program phaser_c`";
 
-const NO_TOOLCHAIN: &str =
-    "there is no liblibc_c.a of the Rattle toolchain: set RATTLE_C to its folder, or put the command `rt` on the PATH";
-
-/// Links this archive of the folder, if it is there.
-fn archive(folder: &Path, name: &str) -> Option<Vec<String>> {
-    let file = folder.join(format!("lib{name}.a"));
-    file.exists().then(|| {
-        vec![
-            format!("rerun-if-changed={}", file.display()),
-            format!("rustc-link-search=native={}", folder.display()),
-            format!("rustc-link-lib=static={name}"),
-        ]
-    })
-}
-
-/// The archive that has the toolchain's in it.
+/// Links the `libpaldwosk.a` of the folder, if it is there.
 fn whole(folder: &Path) -> Option<Vec<String>> {
-    archive(folder, "paldwosk")
+    let file = folder.join("libpaldwosk.a");
+    file.exists().then(|| [vec![changed(&file)], archive_in(folder)].concat())
 }
 
-/// The library's archive alone, and that of the toolchain.
-fn with_toolchain(folder: &Path) -> Option<Lines> {
-    let mut lines = archive(folder, "phaser_c")?;
-    let toolchain = toolchain().and_then(|folder| archive(&folder, "libc_c"));
-    Some(match toolchain {
-        Some(more) => {
-            lines.extend(more);
-            Ok(lines)
-        }
-        None => Err(NO_TOOLCHAIN.to_string()),
-    })
+fn archive_in(folder: &Path) -> Vec<String> {
+    vec![format!("rustc-link-search=native={}", folder.display()), "rustc-link-lib=static=paldwosk".to_string()]
 }
 
-/// The folder with liblibc_c.a.
-fn toolchain() -> Option<PathBuf> {
-    if let Some(folder) = var_os("RATTLE_C") {
-        return Some(PathBuf::from(folder));
+/// The line by which the script runs again once this has changed.
+fn changed(file: &Path) -> String {
+    format!("rerun-if-changed={}", file.display())
+}
+
+/// What of the checkout is in an archive that is made here, beside the folder's: the script first.
+const PARTS: [&str; 3] = ["tools/whole_archive", "packaging/paldwosk_shared.c", "include"];
+
+/// Makes a `libpaldwosk.a` of the `libphaser_c.a` of the folder, if that is there, and links it.
+fn made_whole(folder: &Path, package: &Path) -> Option<Lines> {
+    let library = folder.join("libphaser_c.a");
+    if !library.exists() {
+        return None;
     }
-    let path = var_os("PATH")?;
-    let rt = split_paths(&path).find_map(|folder| folder.join("rt").canonicalize().ok())?;
-    // The command is KIT/bin/rt.
-    Some(rt.parent()?.parent()?.join("c"))
+    let parts = PARTS.map(|part| package.join("../../..").join(part));
+    if !parts[0].exists() {
+        let told = library.display();
+        return Some(Err(format!("{told} isn't whole: `tools/whole_archive` of a checkout makes a libpaldwosk.a of it")));
+    }
+    let room = PathBuf::from(var_os("OUT_DIR")?);
+    if let Some(fault) = fault_of(Command::new(&parts[0]).args([&room, &library])) {
+        return Some(Err(fault));
+    }
+    let mut lines = archive_in(&room);
+    lines.extend([&library].into_iter().chain(&parts).map(|part| changed(part)));
+    Some(Ok(lines))
+}
+
+/// What a command says that fails, in one line.
+fn fault_of(command: &mut Command) -> Option<String> {
+    match command.output() {
+        Ok(ran) if ran.status.success() => None,
+        Ok(ran) => Some(String::from_utf8_lossy(&ran.stderr).split_whitespace().collect::<Vec<_>>().join(" ")),
+        Err(fault) => Some(format!("{:?} doesn't run: {fault}", command.get_program())),
+    }
 }
 
 /// What `pkg-config` names, if it is there and knows a version that fits. It speaks of the host.

@@ -1,6 +1,7 @@
 //! The calls that wait: each on its happy path and wrongly used, threads that panic or leave, barriers, and traces.
 use paldwosk::{replay, Barrier, Look, Mode, Operator, Phaser, Refusal, Task};
 use std::panic::{catch_unwind, AssertUnwindSafe, RefUnwindSafe, UnwindSafe};
+use std::process::Command;
 use std::sync::atomic::{AtomicBool, AtomicU64, Ordering::*};
 use std::sync::mpsc::{channel, RecvTimeoutError};
 use std::sync::Arc;
@@ -395,6 +396,25 @@ fn single_that_panics_ends_the_turn() {
     });
 }
 
+/// What the statement panics with comes to its thread, once the turn has ended.
+#[test]
+fn panic_of_a_statement_goes_on() {
+    in_time(|| {
+        let (phaser, phases) = (Phaser::new(2, &[]).unwrap(), std::cell::Cell::new(0));
+        let mut maker = phaser.make(Mode::Single).unwrap();
+        let panics = || {
+            let _ = maker.single(1, || {
+                phases.set(1);
+                panic!("as it has to")
+            });
+            phases.set(2); // it isn't reached
+        };
+        let panicked = catch_unwind(AssertUnwindSafe(panics)).unwrap_err();
+        assert_eq!((panicked.downcast_ref(), phases.get(), maker.phase()), (Some(&"as it has to"), 1, 1));
+        assert_eq!((phaser.missing(), maker.next()), (vec![], Ok(1)));
+    });
+}
+
 #[test]
 fn thread_that_panics_in_its_single_leaves() {
     in_time(|| {
@@ -675,6 +695,28 @@ fn one_party_never_runs_out() {
     });
 }
 
+/// A time of less than a millisecond is waited for, and so is one of more milliseconds than 32 bits have: of 49 days.
+#[test]
+fn short_and_long_times_are_waited_for() {
+    in_time(|| {
+        let mut maker = maker(Mode::SigWait, &[]);
+        let mut other = maker.join(Mode::SigWait).unwrap();
+        for short in [Duration::from_nanos(1), Duration::from_micros(100), Duration::from_micros(1_900)] {
+            let began = Instant::now();
+            assert_eq!(maker.next_timeout(short), Ok(None));
+            assert!(began.elapsed() >= short && began.elapsed() < MINUTE / 2);
+        }
+        for (phase, long) in [Duration::from_secs(50 * 24 * 3_600), Duration::MAX].into_iter().enumerate() {
+            let thread = thread::spawn(move || (maker.next_timeout(long), maker));
+            let_sleep();
+            assert_eq!(other.next(), Ok(phase as u64));
+            let (passed, back) = joined(thread);
+            assert_eq!(passed, Ok(Some(phase as u64)));
+            maker = back;
+        }
+    });
+}
+
 /// Task 0 tries and doesn't come back yet. The others pass phase 0 all the same, and wait for it in phase 1.
 #[test]
 fn others_go_on_without_who_ran_out() {
@@ -939,6 +981,67 @@ fn who_ran_out_sees_the_phase_that_has_ended() {
     });
 }
 
+/// A task makes each of its calls while another waits in a turn. That turn ends in the phase in which this task signals.
+#[test]
+fn other_calls_meet_a_turn_that_waits() {
+    type Other<'a> = &'a dyn Fn(&Phaser, &mut Task);
+    let others: [Other; 5] = [
+        &|_, task| assert_eq!(task.signal(), Ok(())),
+        &|_, task| assert_eq!(task.wait(), Err(Refusal::NotSignalled)),
+        &|_, task| assert_eq!(task.single(7, || unreachable!()), Err(Refusal::NoSingle)),
+        &|phaser, _| assert_eq!(phaser.missing(), [0]),
+        &|_, task| assert_eq!(task.join(Mode::Sig).unwrap().phase(), 1),
+    ];
+    for (at, other) in others.into_iter().enumerate() {
+        let phaser = Phaser::new(2, &[]).unwrap();
+        let mut maker = phaser.make(Mode::SigWait).unwrap();
+        let mut waits = maker.join(Mode::SigWait).unwrap();
+        let thread = thread::spawn(move || [waits.next(), waits.next()]);
+        assert_eq!(maker.next(), Ok(0));
+        let_sleep();
+        other(&phaser, &mut maker);
+        let last = if at == 0 { maker.wait() } else { maker.next() };
+        assert_eq!((last, joined(thread)), (Ok(1), [Ok(0), Ok(1)]), "{at}");
+    }
+}
+
+/// The turn of task 0 goes on, and ends while it has a child join. By its own turn the child shows where it has joined. Then task
+/// 0 is given the answer of its turn, and nothing else before.
+#[test]
+fn child_of_a_turn_that_goes_on_knows_its_phase() {
+    in_time(|| {
+        let mut maker = maker(Mode::Single, &[]);
+        let mut other = maker.join(Mode::SigWait).unwrap();
+        for phase in 0..2_000 {
+            assert_eq!(maker.try_next(), Ok(None));
+            let thread = thread::spawn(move || (other.next(), other));
+            let mut children = children(&mut maker, Mode::Sig, 1 + phase as usize % 3);
+            for child in &mut children {
+                let begun = child.phase();
+                assert!(begun == phase || begun == phase + 1);
+                assert_eq!(child.wait().or_else(|_| child.next()), Ok(begun));
+            }
+            drop(children);
+            assert_eq!((maker.phase(), maker.signal(), maker.try_wait()), (phase, Err(Refusal::NotNow), Err(Refusal::NotNow)));
+            assert_eq!(maker.single(1, || unreachable!()), Err(Refusal::NotNow));
+            assert_eq!((maker.next(), maker.phase()), (Ok(phase), phase + 1));
+            let (passed, back) = joined(thread);
+            assert_eq!(passed, Ok(phase));
+            other = back;
+        }
+    });
+}
+
+/// As many leave as join: a task takes no room that it doesn't give back, and no number again.
+#[test]
+fn thousand_join_and_leave() {
+    for mode in [Mode::Sig, Mode::Wait, Mode::SigWait] {
+        let mut maker = maker(Mode::SigWait, &[]);
+        (1..1_000).for_each(|number| assert_eq!(maker.join(mode).unwrap().number(), number));
+        assert_eq!(children(&mut maker, mode, 255).len(), 255);
+    }
+}
+
 /// A task that waits in its turn has another join, which has signalled as it has. So only the third is missing.
 #[test]
 fn child_of_who_waits_has_signalled() {
@@ -1184,6 +1287,42 @@ macro_rules! barrier_tests {
                 }
             }
 
+            /// The threads of each round are new ones.
+            #[test]
+            fn new_threads_meet() {
+                in_time(|| {
+                    let barrier = Barrier::new(5);
+                    for _ in 0..300 {
+                        let leaders = thread::scope(|scope| {
+                            let threads: Vec<_> =
+                                (0..5).map(|_| scope.spawn(|| barrier.wait().is_leader())).collect();
+                            threads.into_iter().map(|it| it.join().unwrap()).filter(|leads| *leads).count()
+                        });
+                        assert_eq!(leaders, 1);
+                    }
+                });
+            }
+
+            /// Threads that meet at two barriers of different sizes by turns.
+            #[test]
+            fn threads_meet_at_two() {
+                in_time(|| {
+                    let (all, pairs) = (Barrier::new(4), [const { AtomicU64::new(0) }; 2]);
+                    let two = [Barrier::new(2), Barrier::new(2)];
+                    let meets = |pair: usize| {
+                        for round in 1..=5_000 {
+                            pairs[pair].fetch_add(1, Relaxed);
+                            two[pair].wait();
+                            assert!(pairs[pair].load(Relaxed) >= 2 * round);
+                            all.wait();
+                            assert!(pairs[1 - pair].load(Relaxed) >= 2 * round);
+                        }
+                    };
+                    let meets = &meets;
+                    thread::scope(|scope| (0..4).for_each(|at| drop(scope.spawn(move || meets(at % 2)))));
+                });
+            }
+
             #[test]
             fn barrier_of_none_is_one_of_one() {
                 in_time(|| {
@@ -1335,7 +1474,7 @@ fn trace_of_one_task_is_told() {
             r#"[14,"t",0,"begin",["async",1,[[0,"SIG"]]]],[15,"p",0,"reg",0,1,"SIG"],[16,"f",0,"spawned",1],"#,
             r#"[17,"t",1,"begin",["end"]],[18,"p",0,"drop",1],[19,"f",0,"ended",1],"#,
             r#"[20,"t",0,"begin",["end"]],[21,"p",0,"drop",0],[22,"f",0,"shut"]],"#,
-            r#""limits":{"acts":65536,"finishes":64,"history":65536,"phasers":64,"regs":256,"tasks":4096},"version":2}"#
+            r#""limits":{"acts":65536,"history":65536,"tasks":4096},"version":2}"#
         );
         assert_eq!(phaser.trace(), text);
         let lines = concat!(
@@ -1601,6 +1740,28 @@ fn trace_ends_at_task_4_096() {
         assert!(report.starts_with("phaser 0 phases 0\ntask 0 refused 21 NoFinish\ntask 1 ended\n"));
         assert!(report.ends_with("totals registered 4096 signals 0 passes 0 drops 4096 sends 0 up 0 down 0\n"));
     });
+}
+
+// ---- A wait that is watched
+
+/// With this in the environment, the process of the test itself: its task 0 waits for task 1 for longer than a second.
+const WATCH: &str = "PALDWOSK_WATCH";
+
+#[test]
+fn watched_wait_is_told() {
+    if std::env::var_os(WATCH).is_some() {
+        let mut maker = maker(Mode::SigWait, &[]);
+        let _late = maker.join(Mode::SigWait).unwrap();
+        assert_eq!(maker.next_timeout(Duration::from_millis(1_500)), Ok(None));
+        return;
+    }
+    let ran = Command::new(std::env::current_exe().unwrap())
+        .args(["--exact", "watched_wait_is_told", "--nocapture"])
+        .env(WATCH, "1")
+        .output()
+        .unwrap();
+    let told = "paldwosk: task 0 waits for more than 1 s; waiting: 0 (phase 0); missing: 1\n";
+    assert!(ran.status.success() && String::from_utf8_lossy(&ran.stderr).contains(told), "{ran:?}");
 }
 
 // ---- The types

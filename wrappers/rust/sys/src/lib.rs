@@ -1,5 +1,6 @@
-//! The functions of Paldwosk's static library, as `include/paldwosk.h` declares them. The crate `paldwosk` has safe ones over
-//! them. What a caller has to uphold, and what each function answers, stands in that header.
+//! The functions of Paldwosk's static library, as its headers declare them. The crate `paldwosk` has safe ones over them. What a
+//! caller has to uphold, and what each function answers, stands in the header: of `phaser_c_..` in `include/paldwosk.h`, of
+//! `paldwosk_so_barrier_..` in `include/paldwosk_barrier.h`, which has them as `paldwosk_barrier_..`.
 //!
 //! ```
 //! let file = br#"{"accs":["sum"],"calls":[["make",0,"SIG_WAIT"],["send",0,0,1]]}"#;
@@ -11,7 +12,8 @@
 //! assert_eq!((status, &lines[..length]), (0, &b"ok\nok\n"[..]));
 //! ```
 //!
-//! Nothing compares the declarations with those of `crates/phaser_c`: a change to one needs the same change to the other.
+//! Nothing compares the declarations with those of `crates/phaser_c` and of `packaging/paldwosk_shared.c`: a change to one needs
+//! the same change to the other.
 #![deny(missing_docs)]
 #![no_std]
 
@@ -41,28 +43,22 @@ pub struct GivenLimits {
     pub tasks: u32,
 }
 
-/// `paldwosk_freed`: a task that had to wait. Another task's call has now ended its wait.
+/// `paldwosk_barrier`. Its memory is zeroed, aligned to 16, and as long as `paldwosk_so_barrier_size` says.
 #[repr(C)]
-#[derive(Clone, Copy)]
-pub struct Freed {
-    /// The task's number.
-    pub task: u64,
-    /// On DONE of a pass the phase, on CLAIMED the single's number; else 0.
-    pub number: u64,
-    /// `paldwosk_answer`: DONE, CLAIMED, or why the call was refused.
-    pub answer: u32,
+pub struct GivenBarrier {
+    held: [u8; 0],
 }
 
-/// `paldwosk_send`: a value that a task sends to an accumulator.
+/// `paldwosk_task`: a task of a barrier.
 #[repr(C)]
 #[derive(Clone, Copy)]
-pub struct GivenSend {
+pub struct GivenTask {
+    /// Where its barrier is.
+    pub barrier: *mut GivenBarrier,
     /// The task's number.
-    pub task: u64,
-    /// What is sent.
-    pub value: i32,
-    /// The accumulator's index, 0 to 3.
-    pub accumulator: u8,
+    pub number: u64,
+    /// The library's alone.
+    pub seat: u32,
 }
 
 /// `paldwosk_judged_event`: an event of a phaser, for a judge.
@@ -134,10 +130,11 @@ pub struct GivenWhy {
     pub tasks: [u64; MOST_NAMED],
 }
 
-/// `PALDWOSK_MOST_FREED`: how many tasks may wait at once, and be freed by one call.
-pub const MOST_FREED: usize = 256;
+/// How many tasks a barrier has at most.
+pub const MOST_TASKS: usize = 256;
 
-// Each of the others is the function of that name in the header, which says what it answers.
+// Each of the others is the function of that name in `include/paldwosk.h`, or without its `so_` in
+// `include/paldwosk_barrier.h`. The header says what it answers.
 #[allow(missing_docs)]
 unsafe extern "C" {
     /// The form in which the archive and these declarations hand values to each other. With an archive of another form a
@@ -194,74 +191,45 @@ unsafe extern "C" {
         written: &mut usize,
     ) -> u32;
 
-    pub fn phaser_c_waiting_new(phaser: &mut Handle, operators: *const u32, count: usize, bound: u32) -> u32;
-    pub fn phaser_c_waiting_free(phaser: &mut Handle);
-    pub fn phaser_c_waiting_make(phaser: &mut Handle, mode: u32, task: &mut u64) -> u32;
-    pub fn phaser_c_waiting_register(phaser: &mut Handle, parent: u64, mode: u32, task: &mut u64) -> u32;
-    pub fn phaser_c_waiting_send(phaser: &mut Handle, task: u64, accumulator: u8, value: i32) -> u32;
-    pub fn phaser_c_waiting_look(phaser: &mut Handle, task: u64, accumulator: u8, value: &mut i64) -> u32;
-    pub fn phaser_c_waiting_signal(
-        phaser: &mut Handle,
-        task: u64,
-        freed: *mut Freed,
+    /// How many bytes a barrier takes.
+    pub fn paldwosk_so_barrier_size() -> usize;
+    pub fn paldwosk_so_barrier_new(barrier: *mut GivenBarrier, bound: u32, operators: *const u32, count: usize) -> u32;
+    pub fn paldwosk_so_barrier_new_traced(
+        barrier: *mut GivenBarrier,
+        bound: u32,
+        operators: *const u32,
+        count: usize,
+    ) -> u32;
+    pub fn paldwosk_so_barrier_free(barrier: *mut GivenBarrier) -> u32;
+    pub fn paldwosk_so_barrier_make(barrier: *mut GivenBarrier, mode: u32, task: &mut GivenTask) -> u32;
+    pub fn paldwosk_so_barrier_join(parent: &GivenTask, mode: u32, task: &mut GivenTask) -> u32;
+    pub fn paldwosk_so_barrier_next(task: &GivenTask, phase: &mut u64) -> u32;
+    pub fn paldwosk_so_barrier_next_for(task: &GivenTask, milliseconds: u32, phase: &mut u64) -> u32;
+    pub fn paldwosk_so_barrier_signal(task: &GivenTask) -> u32;
+    pub fn paldwosk_so_barrier_signal_for(task: &GivenTask, milliseconds: u32) -> u32;
+    pub fn paldwosk_so_barrier_wait(task: &GivenTask, phase: &mut u64) -> u32;
+    pub fn paldwosk_so_barrier_wait_for(task: &GivenTask, milliseconds: u32, phase: &mut u64) -> u32;
+    pub fn paldwosk_so_barrier_send(task: &GivenTask, accumulator: u32, value: i32) -> u32;
+    pub fn paldwosk_so_barrier_look(task: &GivenTask, accumulator: u32, value: &mut i64) -> u32;
+    pub fn paldwosk_so_barrier_single(
+        task: &GivenTask,
+        number: u32,
+        run: extern "C" fn(data: *mut c_void),
+        data: *mut c_void,
+        phase: &mut u64,
+    ) -> u32;
+    pub fn paldwosk_so_barrier_leave(task: &GivenTask) -> u32;
+    pub fn paldwosk_so_barrier_missing(
+        barrier: *mut GivenBarrier,
+        tasks: *mut u64,
         room: usize,
         count: &mut usize,
     ) -> u32;
-    pub fn phaser_c_waiting_signal_single(
-        phaser: &mut Handle,
-        task: u64,
-        proposed: u32,
-        freed: *mut Freed,
+    pub fn paldwosk_so_barrier_trace(
+        barrier: *mut GivenBarrier,
+        text: *mut u8,
         room: usize,
-        count: &mut usize,
+        written: &mut usize,
     ) -> u32;
-    pub fn phaser_c_waiting_pass(
-        phaser: &mut Handle,
-        task: u64,
-        number: &mut u64,
-        freed: *mut Freed,
-        room: usize,
-        count: &mut usize,
-    ) -> u32;
-    pub fn phaser_c_waiting_next(
-        phaser: &mut Handle,
-        task: u64,
-        number: &mut u64,
-        freed: *mut Freed,
-        room: usize,
-        count: &mut usize,
-    ) -> u32;
-    pub fn phaser_c_waiting_next_single(
-        phaser: &mut Handle,
-        task: u64,
-        proposed: u32,
-        number: &mut u64,
-        freed: *mut Freed,
-        room: usize,
-        count: &mut usize,
-    ) -> u32;
-    pub fn phaser_c_waiting_single_done(
-        phaser: &mut Handle,
-        task: u64,
-        freed: *mut Freed,
-        room: usize,
-        count: &mut usize,
-    ) -> u32;
-    pub fn phaser_c_waiting_leave(
-        phaser: &mut Handle,
-        task: u64,
-        freed: *mut Freed,
-        room: usize,
-        count: &mut usize,
-    ) -> u32;
-    pub fn phaser_c_waiting_level(phaser: &mut Handle, tasks: *const u64, count: usize, phase: &mut u64) -> u32;
-    pub fn phaser_c_waiting_round(
-        phaser: &mut Handle,
-        sends: *const GivenSend,
-        send_count: usize,
-        tasks: *const u64,
-        task_count: usize,
-        phase: u64,
-        made: &mut usize,
-    ) -> u32;
+    pub fn paldwosk_so_barrier_trace_ended(barrier: *mut GivenBarrier) -> i32;
 }
