@@ -73,7 +73,7 @@ typedef enum paldwosk_answer {
   PALDWOSK_SINGLE_MISMATCH = 7,   /* another number is proposed in this phase */
   PALDWOSK_ONE_PHASER_ONLY = 8,   /* of worlds alone: a single asks for exactly one registration */
   PALDWOSK_NO_ACCUMULATOR = 9,    /* the phaser has no accumulator of that index */
-  PALDWOSK_NO_PHASE_YET = 10,     /* the task has ended no turn yet */
+  PALDWOSK_NO_PHASE_YET = 10,     /* the task hasn't finished a turn yet */
   PALDWOSK_MORE_THAN_PARENT = 11, /* the child's mode isn't within the parent's */
   PALDWOSK_OUTSIDE_SCOPE = 12,    /* of worlds alone: the phaser wasn't made in the innermost finish */
   PALDWOSK_REGISTERED_TWICE = 13, /* the child was registered there before, or is named twice */
@@ -85,7 +85,7 @@ typedef enum paldwosk_answer {
   PALDWOSK_ACTS_FULL = 19,        /* of worlds alone: the task's acts are at the limit */
   PALDWOSK_FINISH_OPEN = 20,      /* of worlds alone: the task ends with an open finish of its own */
   PALDWOSK_NO_FINISH = 21,        /* of worlds alone: the task has no open finish of its own to shut */
-  PALDWOSK_NOT_NOW = 22,          /* the wrong moment: what is asked has no place here now */
+  PALDWOSK_NOT_NOW = 22,          /* the wrong moment: this isn't possible right now */
   PALDWOSK_MEMORY = 23,           /* memory was refused */
   PALDWOSK_BAD_TEXT = 24,         /* of texts alone: the text isn't of the form */
   PALDWOSK_NOT_EXPLAINED = 25,    /* of traces alone: an event of the trace can't follow those before it */
@@ -94,7 +94,7 @@ typedef enum paldwosk_answer {
   /* The call was answered, and isn't simply done. On NOT_YET of phaser_c_waiting_.. the task waits. */
   PALDWOSK_NOT_YET = 32,   /* nothing has changed */
   PALDWOSK_CLAIMED = 33,   /* the task is to run the single */
-  PALDWOSK_NOTHING = 34,   /* there is no least and no greatest of no values */
+  PALDWOSK_NOTHING = 34,   /* no values were sent, so there is no least or greatest */
   PALDWOSK_NOT_KEPT = 35,  /* what is asked for isn't kept */
   PALDWOSK_TOO_GREAT = 36, /* the fold isn't within 64 bits: it takes 2^32 values in one phase */
 
@@ -104,7 +104,7 @@ typedef enum paldwosk_answer {
 
   /* What was passed is at fault. Nothing changed, except *written if the room is too small. Room for tasks has to
    * be PALDWOSK_MOST_FREED. */
-  PALDWOSK_NULL = 64,          /* a pointer is NULL that may not be, or the task is zeroed */
+  PALDWOSK_NULL = 64,          /* a required pointer is NULL, or the task is zeroed */
   PALDWOSK_CLOSED = 65,        /* there is no phaser or judge, or it was freed, or a fork has left it behind */
   PALDWOSK_OPEN = 66,          /* there is a phaser or judge already */
   PALDWOSK_SHORT = 67,         /* the room is too small */
@@ -154,7 +154,8 @@ PALDWOSK_INLINE const char *paldwosk_answer_text(paldwosk_answer answer) {
     case PALDWOSK_NO_ACCUMULATOR:
       return "NoAccumulator (9): the phaser has no accumulator of that index; "
              "name its operator when you make the phaser (the first has index 0)";
-    case PALDWOSK_NO_PHASE_YET: return "NoPhaseYet (10): the task has ended no turn yet; look after its first turn";
+    case PALDWOSK_NO_PHASE_YET:
+      return "NoPhaseYet (10): the task hasn't finished a turn yet; look after its first turn";
     case PALDWOSK_MORE_THAN_PARENT:
       return "MoreThanParent (11): the child's mode isn't within the parent's; "
              "take a mode that does less, or another parent";
@@ -180,7 +181,7 @@ PALDWOSK_INLINE const char *paldwosk_answer_text(paldwosk_answer answer) {
     case PALDWOSK_NO_FINISH:
       return "NoFinish (21): the task has no open finish of its own to shut; open one before it shuts one";
     case PALDWOSK_NOT_NOW:
-      return "NotNow (22): the wrong moment: what is asked has no place here now; "
+      return "NotNow (22): the wrong moment: this isn't possible right now; "
              "make a phaser once, leave after a single is done, go on with a call whose time is over";
     case PALDWOSK_MEMORY: return "Memory (23): memory was refused; free some, or ask for less";
     case PALDWOSK_BAD_TEXT: return "BadText (24): the text isn't of the form; compare it with docs/formats.md";
@@ -191,7 +192,8 @@ PALDWOSK_INLINE const char *paldwosk_answer_text(paldwosk_answer answer) {
     case PALDWOSK_NOT_YET: return "NotYet (32): nothing has changed; ask again after another task's call";
     case PALDWOSK_CLAIMED:
       return "Claimed (33): the task is to run the single; run it, report it done, and ask to pass again";
-    case PALDWOSK_NOTHING: return "Nothing (34): there is no least and no greatest of no values; go on without one";
+    case PALDWOSK_NOTHING:
+      return "Nothing (34): no values were sent, so there is no least or greatest; go on without one";
     case PALDWOSK_NOT_KEPT:
       return "NotKept (35): what is asked for isn't kept; "
              "make a traced barrier, or ask of another phase or accumulator";
@@ -201,7 +203,7 @@ PALDWOSK_INLINE const char *paldwosk_answer_text(paldwosk_answer answer) {
     case PALDWOSK_TIMED_OUT:
       return "TimedOut (48): the time is over and the call isn't; make the same call again, or let the task leave";
     case PALDWOSK_NULL:
-      return "Null (64): a pointer is NULL that may not be, or the task is zeroed; pass the address of a variable";
+      return "Null (64): a required pointer is NULL, or the task is zeroed; pass the address of a variable";
     case PALDWOSK_CLOSED:
       return "Closed (65): there is no phaser or judge, or it was freed, or a fork has left it behind; make one first";
     case PALDWOSK_OPEN: return "Open (66): there is a phaser or judge already; free it before you make another there";

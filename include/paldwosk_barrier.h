@@ -83,7 +83,7 @@
  * of its parent is answered PALDWOSK_CLOSED, and touches no lock; the child may make barriers of its own. A child of
  * _Fork() isn't known as one: it makes no call.
  *
- * ANSWERS. A call answers PALDWOSK_NULL if a pointer is NULL that may not be, or if the task is zeroed; then
+ * ANSWERS. A call answers PALDWOSK_NULL if a required pointer is NULL, or if the task is zeroed; then
  * PALDWOSK_CLOSED if there is no barrier, or it was freed; then what its function lists, with the refusals of
  * docs/rules.md. If the answer isn't PALDWOSK_DONE nothing has changed, unless that is said. If the pass of a next is
  * refused, its signal was made. */

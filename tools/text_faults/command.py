@@ -148,7 +148,7 @@ def text_in(name, raw, kind):
     try:
         value = value_of(text)
     except NoJson as fault:
-        at, why = fault.at, "no JSON: %s" % fault.why
+        at, why = fault.at, "not JSON: %s" % fault.why
         if is_log_text(raw):
             at, why = 0, "this is a log and no %s: judge reads it, and program_check --kind log says what is wrong with it" % guess
         raise Stop(WRONG, Text(name, text, guess, None).line(at, why), 0) from None

@@ -90,7 +90,7 @@ class Form:
     def number(self, value, path, name, least, most):
         if is_whole(value, least, most):
             return
-        why = "%s is a whole number of %s to %s, and here stands %s" % (name, format(least, ","), format(most, ","), shown(value))
+        why = "%s is a whole number of %s to %s, but found %s" % (name, format(least, ","), format(most, ","), shown(value))
         if isinstance(value, Real):
             why += ", which isn't one in digits alone" if len(value.text) < 19 else ", which is past 64 bits"
         elif isinstance(value, str) and value.lstrip("-").isdigit():
@@ -99,14 +99,14 @@ class Form:
 
     def one_of(self, value, path, name, words):
         if not isinstance(value, str) or value not in words:
-            self.fault(path, "%s is one of %s, and here stands %s%s" % (name, quoted(words), shown(value), near(value, words)))
+            self.fault(path, "%s is one of %s, but found %s%s" % (name, quoted(words), shown(value), near(value, words)))
 
     def mode(self, value, path):
         self.one_of(value, path, "a mode", MODES)
 
     def list(self, value, path, name):
         if not isinstance(value, list):
-            self.fault(path, "%s is a list, and here stands %s" % (name, shown(value)))
+            self.fault(path, "%s is a list, but found %s" % (name, shown(value)))
 
     def operators(self, value, path):
         self.list(value, path, "what says the operators")
@@ -119,7 +119,7 @@ class Form:
         """The name of an act, a call or an event, which is a list that begins with it."""
         if not isinstance(value, list) or not value:
             here = "an empty list" if value == [] else shown(value)
-            self.fault(path, "%s is a list, as %s, and here stands %s" % (what, example, here))
+            self.fault(path, "%s is a list, as %s, but found %s" % (what, example, here))
         return self.name_at(value, path, 0, forms, what)
 
     def name_at(self, value, path, index, forms, what):
@@ -149,10 +149,10 @@ class Form:
 
     def keys(self, value, path, known, what):
         if not isinstance(value, dict):
-            self.fault(path, "%s is an object, and here stands %s" % (what, shown(value)))
+            self.fault(path, "%s is an object, but found %s" % (what, shown(value)))
         for key in value:
             if key not in known:
-                why = "there is no key %s in %s, whose keys are %s" % (shown(key), what, quoted(known))
+                why = "unknown key %s in %s; known keys are %s" % (shown(key), what, quoted(known))
                 self.fault((*path, Key(key)), why + near(key, known))
 
     def limits(self, outer):

@@ -102,14 +102,14 @@ class Reader:
         """What stands at an offset, in words."""
         sign, word = self.sign(at), WORD.match(self.text, at)
         if not sign:
-            return "here the text ends"
+            return "found the end of the text"
         if sign == "/" and self.sign(at + 1) in ("/", "*") or sign == "#":
-            return "here stands a comment, which JSON doesn't have"
+            return "found a comment; JSON has none"
         if word:
-            return "here stands %s without double quotes" % word[0][:32]
+            return "found %s without double quotes" % word[0][:32]
         if sign in "'\u2018\u2019\u201c\u201d`":
-            return "here stands %s: texts stand in double quotes" % sign
-        return "here stands %s" % (sign if sign.isprintable() and sign != " " else "the sign U+%04X" % ord(sign))
+            return "found %s: texts stand in double quotes" % sign
+        return "found %s" % (sign if sign.isprintable() and sign != " " else "the sign U+%04X" % ord(sign))
 
     def whole(self):
         if not self.text.strip(" \t\n\r"):
@@ -119,7 +119,7 @@ class Reader:
         value, at = self.value(0, 0)
         at = self.skip(at)
         if at < len(self.text):
-            raise NoJson(at, "the text goes on after its outermost value, where its end was expected, and %s" % self.here(at))
+            raise NoJson(at, "unexpected text after the end of the JSON value: %s" % self.here(at))
         return value
 
     def value(self, at, depth):
@@ -137,7 +137,7 @@ class Reader:
         word = WORD.match(self.text, at)
         if word and word[0] in LITERALS:
             return LITERALS[word[0]], word.end()
-        raise NoJson(at, "a value was expected, and %s" % self.here(at))
+        raise NoJson(at, "expected a value, but %s" % self.here(at))
 
     def closed(self, at, closing, what, began):
         """Where the next item begins; none where the list or the object is closed. After an item stands a comma or its end."""
@@ -147,10 +147,10 @@ class Reader:
         if self.sign(at) != ",":
             line, column = line_and_column(self.text, began)
             of = "of the %s that begins at %d:%d" % (what, self.line - 1 + line, column)
-            raise NoJson(at, "a comma or the %s %s was expected, and %s" % (closing, of, self.here(at)))
+            raise NoJson(at, "expected a comma or the %s %s, but %s" % (closing, of, self.here(at)))
         following = self.skip(at + 1)
         if self.sign(following) == closing:
-            raise NoJson(at, "a comma stands after the last item of the %s, where %s was expected" % (what, closing))
+            raise NoJson(at, "unexpected comma after the last item of the %s: expected %s" % (what, closing))
         return following, at
 
     def list(self, began, depth):
@@ -171,11 +171,11 @@ class Reader:
             return members, at + 1
         while True:
             if self.sign(at) != '"':
-                raise NoJson(at, "a key in double quotes was expected, and %s" % self.here(at))
+                raise NoJson(at, "expected a key in double quotes, but %s" % self.here(at))
             key, at = self.string(at)
             at = self.skip(at)
             if self.sign(at) != ":":
-                raise NoJson(at, "a colon was expected after the key, and %s" % self.here(at))
+                raise NoJson(at, "expected a colon after the key, but %s" % self.here(at))
             members[key], at = self.value(at + 1, depth)
             following, at = self.closed(at, "}", "object", began)
             if following is None:
@@ -190,7 +190,7 @@ class Reader:
             if sign == '"':
                 return json.loads(self.text[began:at + 1]), at + 1
             if sign in ("", "\n", "\r"):
-                raise NoJson(began, "the text that begins here isn't closed: its second double quote was expected")
+                raise NoJson(began, "the text that begins here isn't closed: expected its second double quote")
             if sign != "\\":
                 raise NoJson(at, "a text has the sign U+%04X, which is written \\u%04x there" % (ord(sign), ord(sign)))
             at = self.escape(at)
@@ -198,24 +198,24 @@ class Reader:
     def escape(self, at):
         found = ESCAPE.match(self.text, at)
         if not found:
-            raise NoJson(at, "after \\ in a text one of \" \\ / b f n r t was expected, or u and four hexadecimal digits")
+            raise NoJson(at, "expected one of \" \\ / b f n r t after \\ in a text, or u and four hexadecimal digits")
         if not SURROGATE.match(self.text, at):
             return found.end()
         pair = PAIR.match(self.text, at)
         if not pair:
-            raise NoJson(at, "%s is half of a pair, of which the other half was expected beside it" % found[0])
+            raise NoJson(at, "%s is half of a pair, and the other half isn't beside it" % found[0])
         return pair.end()
 
     def number(self, at):
         found = NUMBER.match(self.text, at)
         if not found:
-            raise NoJson(at, "digits were expected after -")
+            raise NoJson(at, "expected digits after -")
         end = found.end()
         following = self.sign(end)
         if following.isdigit():
             raise NoJson(at, "a number of more than one digit doesn't begin with 0")
         if following and following in ".eE":
-            raise NoJson(end, "digits were expected after %s in a number" % following)
+            raise NoJson(end, "expected digits after %s in a number" % following)
         try:
             return whole_of(found[0], self.real) if found[0].lstrip("-").isdigit() else self.real(found[0]), end
         except ValueError:

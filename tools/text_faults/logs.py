@@ -94,7 +94,7 @@ def read_value(number, raw):
     try:
         return text, value_of(text, QUICK, Real, DEEPEST, number)
     except NoJson as fault:
-        words = ["no JSON: %s" % fault.why, what_to_do(text, fault.at, raw.endswith(b"\n"))]
+        words = ["not JSON: %s" % fault.why, what_to_do(text, fault.at, raw.endswith(b"\n"))]
         raise LineFault(number, fault.at, "; ".join(filter(None, words))) from None
 
 
@@ -108,7 +108,7 @@ class Header(Form):
         if isinstance(value, list):
             self.fault((), "the header is missing: write %s as the first line, before this" % HEADER)
         if not isinstance(value, dict):
-            self.fault((), "a log begins with the header %s, and here stands %s" % (HEADER, shown(value)))
+            self.fault((), "a log begins with the header %s, but found %s" % (HEADER, shown(value)))
         for kind, (listed, *_, reader) in KINDS.items():
             if listed in value:
                 self.fault((), "this is %s and no log: %s read%s it" % (CALLED[kind], reader, "" if " and " in reader else "s"))
@@ -118,9 +118,9 @@ class Header(Form):
         if keys_twice(text):
             self.fault((Key("version"),), "the version stands twice in the header, which is %s" % HEADER)
         if not value:
-            self.fault((), "the header is %s, and here stands an empty object" % HEADER)
+            self.fault((), "the header is %s, but found an empty object" % HEADER)
         if not is_whole(value["version"], 2, 2):
-            self.fault(("version",), "the header is %s, and here stands %s" % (HEADER, shown(value["version"])))
+            self.fault(("version",), "the header is %s, but found %s" % (HEADER, shown(value["version"])))
 
 
 class Line(Trace):
@@ -132,7 +132,7 @@ class Line(Trace):
         if not isinstance(value, list) or not value:
             again = ": a log has one header, in its first line" if isinstance(value, dict) and is_header_like(value) else ""
             here = "an empty list" if value == [] else shown(value)
-            self.fault((), "a line is an event, a list as %s, and here stands %s%s" % (EXAMPLE, here, again))
+            self.fault((), "a line is an event, a list as %s, but found %s%s" % (EXAMPLE, here, again))
         self.number(value[0], (0,), "the ticket", 0, MOST_TICKET)
         if len(value) == 1:
             self.fault((), 'a ticket is followed by "p", "f" or "t", and here nothing follows it')

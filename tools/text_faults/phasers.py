@@ -210,7 +210,7 @@ class Phaser:
         if self.no_accumulator(accumulator):
             return self.no_accumulator(accumulator)
         if self.on[task].waits == 0:
-            return 10, "task %d has ended no turn on %s yet" % (task, self)
+            return 10, "task %d hasn't finished a turn on %s yet" % (task, self)
         return self.full()
 
     def no_accumulator(self, accumulator):

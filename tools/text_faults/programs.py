@@ -123,7 +123,7 @@ class Program(Form):
 
     def name(self, value, path):
         if not isinstance(value, str) or not NAME.fullmatch(value):
-            why = "a name is 1 to 32 letters of ASCII, digits and underscores, and here stands %s"
+            why = "a name is 1 to 32 letters of ASCII, digits and underscores, but found %s"
             self.fault(path, why % shown(value) + (", which has %d" % len(value) if isinstance(value, str) and len(value) > 32 else ""))
 
     def number_name(self, value, path):
@@ -151,7 +151,7 @@ class Program(Form):
             place = (*path, 1, at)
             if not isinstance(pair, list) or len(pair) != 2:
                 here = "a list of %d" % len(pair) if isinstance(pair, list) else shown(pair)
-                self.fault(place, 'a child is registered by a pair, as ["p","SIG"], and here stands %s' % here)
+                self.fault(place, 'a child is registered by a pair, as ["p","SIG"], but found %s' % here)
             self.name(pair[0], (*place, 0))
             self.mode(pair[1], (*place, 1))
         if len(items[0]) > MOST_PAIRS:

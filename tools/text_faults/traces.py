@@ -45,7 +45,7 @@ class Trace(Form):
         if "version" not in outer:
             self.fault((), 'a trace has the key "version", which is 1 or 2, and it is missing')
         if not is_whole(outer["version"], 1, 2):
-            self.fault(("version",), "the version is 1 or 2, and here stands %s" % shown(outer["version"]))
+            self.fault(("version",), "the version is 1 or 2, but found %s" % shown(outer["version"]))
         self.version = outer["version"]
 
     def read(self, value):
@@ -64,7 +64,7 @@ class Trace(Form):
     def event(self, value, path):
         if not isinstance(value, list) or not value:
             here = "an empty list" if value == [] else shown(value)
-            self.fault(path, 'an event is a list, as [1,"p",0,"sig",0], and here stands %s' % here)
+            self.fault(path, 'an event is a list, as [1,"p",0,"sig",0], but found %s' % here)
         self.number(value[0], (*path, 0), "the ticket", 0, MOST_TICKET)
         if len(value) < 4:
             self.fault(path, "an event has a ticket, \"p\", \"f\" or \"t\", a number and a name, and here stand %d items" % len(value))
@@ -102,7 +102,7 @@ class Trace(Form):
         self.list(value, path, "what follows the child (the pairs)")
         for at, pair in enumerate(value):
             if not isinstance(pair, list) or len(pair) != 2:
-                self.fault((*path, at), 'a child is registered by a pair, as [0,"SIG"], and here stands %s' % shown(pair))
+                self.fault((*path, at), 'a child is registered by a pair, as [0,"SIG"], but found %s' % shown(pair))
             self.number(pair[0], (*path, at, 0), "ph", 0, WORD)
             self.mode(pair[1], (*path, at, 1))
         if len(value) > MOST_PAIRS:

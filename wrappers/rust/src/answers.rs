@@ -183,14 +183,14 @@ refusals! {
     SingleMismatch = 7, "Another number is proposed in this phase. Propose that number, or signal without one.";
     NoAccumulator = 9, "The phaser has no accumulator of that index. \
         Name its operator when you make the phaser (the first has index 0).";
-    NoPhaseYet = 10, "The task has ended no turn yet. Look after its first turn.";
+    NoPhaseYet = 10, "The task hasn't finished a turn yet. Look after its first turn.";
     MoreThanParent = 11, "The child's mode isn't within the parent's. Take a mode that does less, or another parent.";
     RegisteredTwice = 13, "The child was registered there before, or is named twice. \
         Name it once, by a number that no task has or had.";
     RegsFull = 14, "As many tasks are registered as the limits allow. Let one leave first.";
     HistoryFull = 15, "The history has no room for the event. Raise its limit, or make a new phaser.";
     TasksFull = 17, "The task number is at the limit or above. Raise the limit, or use smaller numbers.";
-    NotNow = 22, "The wrong moment: what is asked has no place here now. \
+    NotNow = 22, "The wrong moment: this isn't possible right now. \
         Make a phaser once, leave after a single is done, go on with a call whose time is over.";
     Memory = 23, "Memory was refused. Free some, or ask for less.";
     TooGreat = 36, "The fold isn't within 64 bits: it takes 2^32 values in one phase. Go on without it, or send fewer.";
