@@ -6,3 +6,5 @@ pub mod Legal
 pub mod Reporting
 pub mod Pieces
 pub mod Texts
+pub mod Digits
+pub mod Spelled

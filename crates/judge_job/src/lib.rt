@@ -1,6 +1,7 @@
 //! Judges a log of phasers' events line by line, as it comes.
 #![tactic(auto)]
 
+mod compact;
 mod event;
 mod items;
 mod job;

@@ -6,6 +6,7 @@ ghost use Rattle.std.specs.Str.{is_utf8};
 ghost use Rattle.json.specs.Json.{document, read_key};
 ghost use Rattle.judge_job.specs.Forms.{after_begin_object, is_header_of, is_header, is_version, is_object_end, kind_in, line_in, list_in, text_in, most_bytes};
 
+use crate::compact::compact_line;
 use crate::event::event_of;
 use crate::items::{begins, number, word};
 use json::{Reader, Scratch, Token, is_valid};
@@ -88,6 +89,9 @@ fn line_of_text(scratch: &mut Scratch, text: &str) -> Result<Line, Unread>
     ensures { MatchResult result (λ l. text_in text.now ≡ Some l)
         (λ e. e ≡ Unread.BadText → text_in text.now ≡ None) }
 {
+    if let Some(line) = compact_line(text.as_bytes()) {
+        return Ok(line);
+    }
     let line = first_list(scratch, text)?;
     if line.event.is_some() || is_json(scratch, text)? {
         Ok(line)
