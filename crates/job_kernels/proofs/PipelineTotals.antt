@@ -45,7 +45,7 @@ use Rattle.job_kernels.proofs.PipelineRoot.{root_body, RootAt, ends_next, pairs_
 use Rattle.job_kernels.proofs.PipelineTasks.{total}
 use Rattle.job_kernels.proofs.PipelineGoing.{pipeline_does, TaskStands}
 use Rattle.job_kernels.proofs.PipelineWhole.{Holds, holds, values_in, item, all_values, values, is_made}
-use Rattle.job_kernels.proofs.StencilWhole.{all_below}
+use Rattle.job_kernels.proofs.Histories.{all_below}
 
 -- ---- the root counts its phasers
 

@@ -79,18 +79,13 @@ sent_counts p v h e = some_counts p h (λ n. some_none (sym e ∙ n))
 
 module _ {X Y : Type 0} (line : ℕ → X) (read : X → List Y) (is : ℕ → Bool) (value : ℕ → Y) (n : ℕ)
     (there : (j : ℕ) → j < n → (is j ≡ true) × (read (line j) ≡ value j ∷ []))
-    (nothing : (j : ℕ) → n ≤ j → read (line j) ≡ []) where
+    (nothing : (j : ℕ) → n ≤ j → is j ≡ false) where
   abbrev reads : ℕ → ℕ → List Y
   reads a m = flat_map read (map line (filter is (range_with_len a m)))
 
   nothing_read : (a m : ℕ) → n ≤ a → reads a m ≡ []
   nothing_read a zero le = refl
-  nothing_read a (suc m) le =
-      elim (is a) as (λ b. flat_map read (map line (cond b (a ∷ filter is (range_with_len (a + 1) m))
-      (filter is (range_with_len (a + 1) m)))) ≡ []) [
-        | true ↦ rw (nothing a le) (nothing_read (a + 1) m (more le))
-        | false ↦ nothing_read (a + 1) m (more le)
-      ]
+  nothing_read a (suc m) le = rw (nothing a le) (nothing_read (a + 1) m (more le))
     where
       more : n ≤ a → n ≤ a + 1
       more h = omega arith

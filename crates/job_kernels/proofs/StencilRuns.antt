@@ -1,24 +1,21 @@
 -- The tasks of a stencil go by it.
-use Rattle.std.proofs.Common.{ℕ, zero, suc, pos, ◌+◌, ◌-◌, ◌≡◌, ◌≤◌, ◌<◌, ◌∙◌, min, Bool, true, false, if◌then◌else◌, List, [], ◌∷◌, ◌++◌, length, map, flat_map, get_or, replicate, nat_lt, None, refl, sym, ap, subst, add-one, arith}
+use Rattle.std.proofs.Common.{ℕ, zero, suc, pos, ◌+◌, ◌≡◌, ◌≤◌, ◌<◌, ◌∙◌, min, Bool, true, false, if◌then◌else◌, List, [], ◌∷◌, ◌++◌, length, map, flat_map, get_or, nat_lt, refl, sym, ap, subst, add-one, arith}
 use Rattle.std.proofs.Math.Nat.{min-eq_left}
-use Rattle.std.proofs.lemmas.Bool.{le-leb, lt-ltb, le-ltb, ltb-false}
+use Rattle.std.proofs.lemmas.Bool.{le-leb, ltb-false}
 use Rattle.std.specs.List.{range_with_len}
-use Rattle.std.proofs.lemmas.List.{get_or_past, get_or_append_left}
+use Rattle.std.proofs.lemmas.List.{get_or_past}
 use Rattle.std.proofs.lemmas.List.FromFn.{get_or-map-range_with_len, length-map-range_with_len}
 use Rattle.phase_model.specs.declared.op.Look.TheVariants.{Value}
-use Rattle.phase_model.specs.declared.op.Op.TheVariants.{Sum}
-use Rattle.phase_modes.specs.declared.reg.Mode.TheVariants.{SigWait}
-use Rattle.job_script.specs.declared.act.Act.TheVariants.{New, Async, Send, Look, End}
-use Rattle.job_script.specs.declared.act.Answer.{Answer}
-use Rattle.job_script.specs.declared.act.Answer.TheVariants.{Started, Done, Made, Spawned, Saw}
+use Rattle.job_script.specs.declared.act.Act.TheVariants.{Send, Look}
+use Rattle.job_script.specs.declared.act.Answer.TheVariants.{Started, Done, Saw}
 use Rattle.job_kernels.specs.declared.stencil_body.Moment.{Moment}
 use Rattle.job_kernels.specs.declared.stencil_body.Moment.TheVariants.{Sends, Turns, LooksLeft, LooksRight}
 use Rattle.job_kernels.specs.declared.stencil_body.Role.TheVariants as kinds
 use Rattle.job_kernels.specs.declared.stencil_body.StencilBody.{StencilBody}
 use Rattle.job_kernels.specs.Stencil.{weighed, cell_after, stencil_step, stencil, AtMost}
 use Rattle.job_kernels.specs.Tasks.{value_of, Does, Line, GoesBy}
-use Rattle.job_kernels.specs.StencilTasks.{greatest, looks_right, stencil_next, cell_task, phasers_of, root_task}
-use Rattle.job_kernels.specs.StencilLines.{cells_at, step_lines, cell_lines, making, spawning}
+use Rattle.job_kernels.specs.StencilTasks.{greatest, looks_right, stencil_next, cell_task}
+use Rattle.job_kernels.specs.StencilLines.{cells_at, step_lines, cell_lines}
 use Rattle.job_kernels.proofs.Bounds.{stays_at_most}
 
 -- what is seen of a number that is small enough
@@ -123,77 +120,3 @@ pub cells_go_by_stencil : (first : List ℕ) (steps i : ℕ) → AtMost greatest
 cells_go_by_stencil first steps i h lt =
     sends_goes i (length first) steps (min (get_or first i 0) greatest) (get_or first i 0) 0
     (flat_map (step_lines (cells_at first) (length first) i) (range_with_len 0 steps)) (min-eq_left (h i)) (h i) (go first i h lt 0 steps 0)
-
--- ---- the root
-
--- the root with these fields
-abbrev root : List ℕ → ℕ → ℕ → ℕ → ℕ → StencilBody
-root cells n steps m s = record {
-  role = kinds.Root (record {
-    first = cells;
-    cells = n;
-    steps = steps;
-    made = m;
-    spawned = s;
-  });
-}
-
--- the cells in a row of sixteen
-abbrev padded : List ℕ → List ℕ
-padded first = first ++ replicate (16 - length first) 0
-
-root_makes : (heard : Answer) (cells : List ℕ) (n steps m s : ℕ) → m < n →
-    stencil_next heard (root cells n steps m s) ≡ (New SigWait (Sum ∷ []) None, root cells n steps (m + 1) s)
-root_makes heard cells n steps m s h = rw (lt-ltb m n h) refl
-
-root_spawns : (heard : Answer) (cells : List ℕ) (n steps s : ℕ) → s < n →
-    stencil_next heard (root cells n steps n s)
-    ≡ (Async (cell_task cells n steps s) (phasers_of n s), root cells n steps n (s + 1))
-root_spawns heard cells n steps s h = rw (le-ltb n n (omega arith), lt-ltb s n h) refl
-
-root_ends : (heard : Answer) (cells : List ℕ) (n steps : ℕ) → stencil_next heard (root cells n steps n n) ≡ (End, root cells n steps n n)
-root_ends heard cells n steps = rw (le-ltb n n (omega arith)) refl
-
--- the places behind the row hold nothing that a cell begins with
-cell_task_padded : (first : List ℕ) (n steps i : ℕ) → i < length first → cell_task (padded first) n steps i ≡ cell_task first n steps i
-cell_task_padded first n steps i h =
-    ap (λ v. cell i n steps (min v greatest) 0 Sends) (get_or_append_left first (replicate (16 - length first) 0) 0 i h)
-
-spawns_go : (first : List ℕ) (steps k s : ℕ) (heard : Answer) → s + k ≡ length first →
-    Goes (stencil_next heard (root (padded first) (length first) steps (length first) s))
-    (map (spawning first steps) (range_with_len s k))
-spawns_go first steps zero s heard e =
-    let n : ℕ = length first in
-    let P : ℕ → Type 0 = λ u. (stencil_next heard (root (padded first) n steps n u)).0 ≡ End in
-    let same : n ≡ s = omega (arith, e) in
-    subst P same (ap (λ d. d.0) (root_ends heard (padded first) n steps))
-spawns_go first steps (suc k) s heard e =
-    let n : ℕ = length first in
-    let here : s < n = omega (arith, e) in
-    let lines : List (Line StencilBody) = map (spawning first steps) (range_with_len (s + 1) k) in
-    let P : Does StencilBody → Type 0 = λ d. Goes d (spawning first steps s ∷ lines) in
-    subst P (sym (root_spawns heard (padded first) n steps s here)) (
-      ap (λ b. Async b (phasers_of n s)) (cell_task_padded first n steps s here),
-      spawns_go first steps k (s + 1) (Spawned (s + 1)) (omega (arith, e)),
-    )
-
-makes_go : (first : List ℕ) (steps k m : ℕ) (heard : Answer) → m + k ≡ length first →
-    Goes (stencil_next heard (root (padded first) (length first) steps m 0))
-    (map making (range_with_len m k) ++ map (spawning first steps) (range_with_len 0 (length first)))
-makes_go first steps zero m heard e =
-    let n : ℕ = length first in
-    let P : ℕ → Type 0 = λ u. Goes (stencil_next heard (root (padded first) n steps u 0)) (map (spawning first steps) (range_with_len 0 n)) in
-    let same : n ≡ m = omega (arith, e) in
-    subst P same (spawns_go first steps n 0 heard (omega arith))
-makes_go first steps (suc k) m heard e =
-    let n : ℕ = length first in
-    let here : m < n = omega (arith, e) in
-    let lines : List (Line StencilBody) = map making (range_with_len (m + 1) k) ++ map (spawning first steps) (range_with_len 0 n) in
-    let P : Does StencilBody → Type 0 = λ d. Goes d (making m ∷ lines) in
-    subst P (sym (root_makes heard (padded first) n steps m 0 here))
-    (refl, makes_go first steps k (m + 1) (Made m) (omega (arith, e)))
-
-pub root_spawns_cells : (first : List ℕ) (steps : ℕ) → length first ≤ 16 →
-    GoesBy stencil_next (stencil_next Started (root_task first steps))
-    (map making (range_with_len 0 (length first)) ++ map (spawning first steps) (range_with_len 0 (length first)))
-root_spawns_cells first steps h = makes_go first steps (length first) 0 Started (omega arith)

@@ -76,7 +76,7 @@ module _ (l : Limits) (sum : List Event → ℕ) (by : Step → ℕ) (k : IsSum 
   on_each true terms h s = k.more terms h s
   on_each false terms h s = none_before (sum h)
 
-  spread : (w : List WorldEvent) → is_legal_world l w ≡ true
+  pub spread : (w : List WorldEvent) → is_legal_world l w ≡ true
       → sum_by (λ n. sum (phaser_past n w)) (range_with_len 0 l.phasers) ≡ weigh by w
   spread [] legal = sum_none (λ n. sum (phaser_past n [])) (range_with_len 0 l.phasers) (λ n. k.none)
   spread (Phaser m s ∷ w) legal =
