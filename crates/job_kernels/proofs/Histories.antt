@@ -31,7 +31,7 @@ use Rattle.job_kernels.proofs.Going.{phasers_made, LooksSaw, TaskStands, Standin
 use Rattle.job_kernels.proofs.Acts.{Smooth, stand}
 use Rattle.job_kernels.proofs.Sees.{look_sees, all_there}
 
-pub all_below : (n m : ℕ) → ((j : ℕ) → j < n → j < m) → n ≤ m
+all_below : (n m : ℕ) → ((j : ℕ) → j < n → j < m) → n ≤ m
 all_below zero m f = omega arith
 all_below (suc n) m f = lt_next_le n m (f n (self n))
   where

@@ -21,7 +21,6 @@ pub mod EndedSums
 pub mod SentSums
 pub mod AllBorn
 pub mod Telling
-pub mod RootMakes
 pub mod Plans
 pub mod Going
 pub mod Acts
@@ -32,10 +31,6 @@ pub mod StencilPlan
 pub mod StencilLaws
 pub mod Reports
 pub mod StencilTotals
-pub mod PipelineRoot
-pub mod PipelineTasks
-pub mod PipelineGoing
-pub mod PipelineActs
-pub mod PipelineSees
+pub mod PipelinePlan
 pub mod PipelineWhole
 pub mod PipelineTotals

@@ -1,23 +1,21 @@
 -- The tasks of a pipeline go by it.
-use Rattle.std.proofs.Common.{ℕ, zero, suc, pos, ◌+◌, ◌*◌, ◌≡◌, ◌≤◌, ◌<◌, Bool, true, false, List, [], ◌∷◌, ◌++◌, map, flat_map, Option, Some, None, refl, sym, ap, subst, arith, ℤ}
+use Rattle.std.proofs.Common.{ℕ, zero, suc, pos, ◌+◌, ◌*◌, ◌≡◌, ◌≤◌, ◌<◌, Bool, true, false, List, ◌∷◌, ◌++◌, flat_map, Option, Some, None, refl, sym, ap, subst, arith, ℤ}
 use Rattle.std.specs.List.{range_with_len}
 use Rattle.std.proofs.Math.Nat.{min-eq_left}
-use Rattle.std.proofs.lemmas.Bool.{le-leb, lt-leb, lt-ltb, le-ltb}
-use Rattle.phase_modes.specs.declared.reg.Mode.TheVariants.{SigWait}
+use Rattle.std.proofs.lemmas.Bool.{le-leb, lt-ltb, le-ltb}
 use Rattle.phase_model.specs.declared.op.Look.{Look}
 use Rattle.phase_model.specs.declared.op.Look.TheVariants.{Value}
-use Rattle.phase_model.specs.declared.op.Op.TheVariants.{Least}
-use Rattle.job_script.specs.declared.act.Act.TheVariants.{New, Send, End}
+use Rattle.job_script.specs.declared.act.Act.TheVariants.{Send, End}
 use Rattle.job_script.specs.declared.act.Answer.{Answer}
-use Rattle.job_script.specs.declared.act.Answer.TheVariants.{Started, Done, Made, Spawned, Saw}
+use Rattle.job_script.specs.declared.act.Answer.TheVariants.{Started, Done, Saw}
 use Rattle.job_kernels.specs.declared.pipeline_body.Moment.{Moment}
 use Rattle.job_kernels.specs.declared.pipeline_body.Moment.TheVariants.{Turns, Hears}
 use Rattle.job_kernels.specs.declared.pipeline_body.Role.TheVariants as kinds
 use Rattle.job_kernels.specs.declared.pipeline_body.PipelineBody.{PipelineBody}
 use Rattle.job_kernels.specs.Pipeline.{pipeline_item}
 use Rattle.job_kernels.specs.Tasks.{Does, Line, GoesBy}
-use Rattle.job_kernels.specs.PipelineTasks.{greatest, most_items, stage_turns, spawn, pipeline_next, root_task}
-use Rattle.job_kernels.specs.PipelineLines.{number_at, shown, items_at, sending, source_lines, sink_lines, stage_lines, SourceGoesBy, StageGoesBy, SinkGoesBy, making, spawning}
+use Rattle.job_kernels.specs.PipelineTasks.{greatest, most_items, stage_turns, pipeline_next}
+use Rattle.job_kernels.specs.PipelineLines.{number_at, shown, items_at, sending, source_lines, sink_lines, stage_lines, SourceGoesBy, StageGoesBy, SinkGoesBy}
 
 abbrev pub Goes : Does PipelineBody → List (Line PipelineBody) → Type 0
 Goes does lines = GoesBy pipeline_next does lines
@@ -157,53 +155,3 @@ sink_goes sent k (suc c) p heard = (refl, (refl, sink_goes sent k c (p + 1) (Saw
 
 pub sink_sees_all : (items stages : ℕ) (sent : ℕ → ℕ → Look ℤ) → SinkGoesBy sent items stages
 sink_sees_all items stages sent = sink_goes sent stages (items + stages) 0 Started
-
--- ---- the root
-
-abbrev root : ℕ → ℕ → ℕ → ℕ → PipelineBody
-root items stages m s = record { role = kinds.Root (record { stages = stages; items = items; made = m; spawned = s }) }
-
-root_makes : (heard : Answer) (items stages m s : ℕ) → m ≤ stages →
-    pipeline_next heard (root items stages m s) ≡ (New SigWait (Least ∷ []) None, root items stages (m + 1) s)
-root_makes heard items stages m s h = rw (le-leb m stages h) refl
-
-root_spawns : (heard : Answer) (items stages s : ℕ) → s ≤ stages + 1 →
-    pipeline_next heard (root items stages (stages + 1) s)
-    ≡ (spawn items stages s, root items stages (stages + 1) (s + 1))
-root_spawns heard items stages s h =
-    rw (lt-leb (stages + 1) stages (omega arith), le-leb s (stages + 1) h) refl
-
-root_ends : (heard : Answer) (items stages : ℕ) →
-    (pipeline_next heard (root items stages (stages + 1) (stages + 2))).0 ≡ End
-root_ends heard items stages =
-    rw (lt-leb (stages + 1) stages (omega arith), lt-leb (stages + 2) (stages + 1) (omega arith)) refl
-
-spawns_go : (items stages k s : ℕ) (heard : Answer) → s + k ≡ stages + 2 →
-    Goes (pipeline_next heard (root items stages (stages + 1) s)) (map (spawning items stages) (range_with_len s k))
-spawns_go items stages zero s heard e =
-    let P : ℕ → Type 0 = λ u. (pipeline_next heard (root items stages (stages + 1) u)).0 ≡ End in
-    let same : stages + 2 ≡ s = omega (arith, e) in
-    subst P same (root_ends heard items stages)
-spawns_go items stages (suc k) s heard e =
-    let lines : List (Line PipelineBody) = map (spawning items stages) (range_with_len (s + 1) k) in
-    let P : Does PipelineBody → Type 0 = λ d. Goes d (spawning items stages s ∷ lines) in
-    subst P (sym (root_spawns heard items stages s (omega (arith, e))))
-    (refl, spawns_go items stages k (s + 1) (Spawned (s + 1)) (omega (arith, e)))
-
-makes_go : (items stages k m : ℕ) (heard : Answer) → m + k ≡ stages + 1 →
-    Goes (pipeline_next heard (root items stages m 0))
-    (map making (range_with_len m k) ++ map (spawning items stages) (range_with_len 0 (stages + 2)))
-makes_go items stages zero m heard e =
-    let P : ℕ → Type 0 = λ u. Goes (pipeline_next heard (root items stages u 0)) (map (spawning items stages) (range_with_len 0 (stages + 2))) in
-    let same : stages + 1 ≡ m = omega (arith, e) in
-    subst P same (spawns_go items stages (stages + 2) 0 heard (omega arith))
-makes_go items stages (suc k) m heard e =
-    let lines : List (Line PipelineBody) = map making (range_with_len (m + 1) k) ++ map (spawning items stages) (range_with_len 0 (stages + 2)) in
-    let P : Does PipelineBody → Type 0 = λ d. Goes d (making m ∷ lines) in
-    subst P (sym (root_makes heard items stages m 0 (omega (arith, e))))
-    (refl, makes_go items stages k (m + 1) (Made m) (omega (arith, e)))
-
-pub root_spawns_stages : (items stages : ℕ) →
-    GoesBy pipeline_next (pipeline_next Started (root_task stages items))
-    (map making (range_with_len 0 (stages + 1)) ++ map (spawning items stages) (range_with_len 0 (stages + 2)))
-root_spawns_stages items stages = makes_go items stages (stages + 1) 0 Started (omega arith)

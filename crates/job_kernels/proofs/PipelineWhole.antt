@@ -1,100 +1,28 @@
 -- A whole run of a pipeline comes to its items, in order.
-use Rattle.std.proofs.Common.{ℕ, ℤ, zero, suc, pos, ◌+◌, ◌≡◌, ◌≤◌, ◌<◌, ◌∙◌, Bool, true, false, not, nat_lt, cond, List, [], ◌∷◌, ◌++◌, map, flat_map, None, refl, sym, ap, subst, inr, arith}
+use Rattle.std.proofs.Common.{ℕ, ℤ, zero, suc, pos, ◌+◌, ◌≡◌, ◌≤◌, ◌<◌, ◌∙◌, Bool, true, false, nat_lt, cond, List, [], ◌∷◌, ◌++◌, map, flat_map, None, refl, sym, ap, subst, arith}
 use Rattle.std.specs.List.{range_with_len}
-use Rattle.std.proofs.lemmas.Bool.{eq-eqb, le-leb, lt-ltb, le-ltb, ltb-true, ltb-false, false≢true}
-use Rattle.std.proofs.lemmas.Option.{none-some}
-use Rattle.phase_modes.specs.Lists.{is_empty}
+use Rattle.std.proofs.lemmas.Bool.{eq-eqb, le-leb, lt-ltb, le-ltb, ltb-true, ltb-false}
 use Rattle.phase_modes.specs.declared.limits.Limits.{Limits}
-use Rattle.phase_model.specs.declared.op.Look.{Look as Seen}
-use Rattle.phase_model.specs.declared.op.Look.TheVariants.{Value, Nothing}
 use Rattle.phase_model.specs.declared.op.Op.TheVariants.{Least}
 use Rattle.phase_model.specs.Values.{sent, fold}
-use Rattle.job_script.specs.declared.act.Answer.TheVariants.{Started}
-use Rattle.world_model.specs.declared.event.Step.TheVariants.{Make, Reg, Sig, Claim, Did, Pass, Send, Look, Drop}
 use Rattle.world_model.specs.declared.event.WorldEvent.{WorldEvent}
-use Rattle.world_model.specs.declared.event.WorldEvent.TheVariants.{Phaser, Finish, Begin, Refuse, Fail}
 use Rattle.world_model.specs.declared.report.FoldLine.{FoldLine}
-use Rattle.world_model.specs.Parts.{ops_of, phaser_past}
+use Rattle.world_model.specs.Parts.{phaser_past}
 use Rattle.world_model.specs.Numbers.{is_phaser}
 use Rattle.world_model.specs.Report.{folds_from, phase_count, phaser_lines, report_of}
-use Rattle.world_model.specs.Replies.{is_legal_world, is_accepted}
-use Rattle.world_model.proofs.MadeMeans.{last_accepted}
-use Rattle.world_model.proofs.PairsAsked.{some_registered}
+use Rattle.trace_walk.specs.Whole.{IsWhole}
 use Rattle.job_kernels.specs.Pipeline.{pipeline_item, pipeline}
 use Rattle.job_kernels.specs.Results.{value_seen, values_of, items_of}
 use Rattle.job_kernels.specs.PipelineLines.{number_at, items_at}
 use Rattle.job_kernels.specs.PipelineTasks.{most_items, root_task, pipeline_next}
-use Rattle.job_kernels.proofs.PipelineRuns.{items_in_order}
-use Rattle.trace_walk.specs.Whole.{IsWhole}
-use Rattle.job_kernels.proofs.Numbers.{le_both_ways, le_self, le_without_one, lt_zero_plus, no_next_le_zero, none_below_zero, zero_least, zero_plus}
-use Rattle.job_kernels.proofs.Goes.{GoesSmoothly, smoothly}
 use Rattle.job_kernels.specs.Pipelines.{RunsComeToPipeline}
-use Rattle.job_kernels.proofs.Plain.{IsPlain}
-use Rattle.job_kernels.proofs.EndedSums.{has_left}
-use Rattle.job_kernels.proofs.Endings.{dropped_ends, ended_ends}
-use Rattle.job_kernels.proofs.Making.{made, phaser_fits}
+use Rattle.job_kernels.proofs.PipelineRuns.{items_in_order}
+use Rattle.job_kernels.proofs.Numbers.{le_without_one, lt_zero_plus, no_next_le_zero, none_below_zero, zero_least, zero_plus}
 use Rattle.job_kernels.proofs.Reports.{sent_counts, one_read, map_twice}
-use Rattle.job_kernels.proofs.Telling.{smooth_before}
-use Rattle.job_kernels.proofs.PipelineGoing.{LooksSaw, out_if, TaskStands, Standing}
-use Rattle.job_kernels.proofs.PipelineActs.{stand}
-use Rattle.job_kernels.proofs.OwnPhasers.{IsThere}
-use Rattle.job_kernels.proofs.PipelineSees.{look_sees, all_there}
-
--- ---- what holds of each history
-
-pub record Holds (stages items : ℕ) (w : List WorldEvent) : Type 0 where
-  pub saw : LooksSaw w
-  pub stands : Standing stages items w
-
-module _ (l : Limits) (stages items : ℕ) (few_items : items ≤ most_items) (few_stages : stages ≤ 15) where
-  abbrev Goes : List WorldEvent → Type 0
-  Goes w = GoesSmoothly pipeline_next (root_task stages items) l w
-
-  at_first : Holds stages items []
-  at_first =
-      record {
-        saw = tt;
-        stands = record {
-          plain = refl;
-          pairs = tt;
-          made = tt;
-          root = record {
-            heard = Started;
-            made = 0;
-            is = refl;
-            within = zero_least (stages + 1);
-            below = zero_least (stages + 2);
-            order = inr refl;
-          };
-          over = λ n. absurd (false≢true n);
-          tasks = λ i c h. absurd (none-some c h);
-          unsent = λ i p h. refl;
-        };
-      }
-
-  saw_step : (e : WorldEvent) (w : List WorldEvent) → Holds stages items w → Goes (e ∷ w)
-      → is_accepted l w e ≡ true → is_legal_world l w ≡ true → LooksSaw (e ∷ w)
-  saw_step (Phaser n (Look t a)) w h s ok k = (look_sees l stages items w h.stands k n t a ok s.goes.0, h.saw)
-  saw_step (Phaser n (Make t m terms)) w h s ok k = h.saw
-  saw_step (Phaser n (Reg q t m)) w h s ok k = h.saw
-  saw_step (Phaser n (Sig t x)) w h s ok k = h.saw
-  saw_step (Phaser n (Claim t)) w h s ok k = h.saw
-  saw_step (Phaser n (Did t)) w h s ok k = h.saw
-  saw_step (Phaser n (Pass t)) w h s ok k = h.saw
-  saw_step (Phaser n (Send t a v)) w h s ok k = h.saw
-  saw_step (Phaser n (Drop t)) w h s ok k = h.saw
-  saw_step (Finish f x) w h s ok k = h.saw
-  saw_step (Begin t b) w h s ok k = h.saw
-  saw_step (Refuse t x n) w h s ok k = h.saw
-  saw_step (Fail t n) w h s ok k = h.saw
-
-  pub holds : (w : List WorldEvent) → Goes w → Holds stages items w
-  holds [] s = at_first
-  holds (e ∷ w) s =
-      let a = last_accepted l e w s.legal in
-      let h = holds w (smooth_before pipeline_next (root_task stages items) l e w s) in
-      let saw : LooksSaw (e ∷ w) = saw_step e w h s a.0 a.1 in
-      record { saw = saw; stands = stand l stages items few_items few_stages e w h.stands s saw a.0 a.1 }
+use Rattle.job_kernels.proofs.Plans.{Shape, Plan}
+use Rattle.job_kernels.proofs.Going.{out_if}
+use Rattle.job_kernels.proofs.Histories.{is_made, ops, fits, values}
+use Rattle.job_kernels.proofs.PipelinePlan.{pipeline_shape, pipeline_plan, least_seen}
 
 -- ---- the items, phase by phase
 
@@ -191,63 +119,49 @@ no_values s a (suc m) =
     by_place true h = nothing_early s 0 a (ltb-true a s h)
     by_place false h = rw (le-ltb a (0 + s) (over a s (ltb-false a s h))) refl
 
--- the folds of the least, phase by phase
-least_kept : (x : Seen ℤ) → value_seen (fold Least (value_seen x)) ≡ value_seen x
-least_kept (Value v) = refl
-least_kept Nothing = refl
+-- what the source and the stages send on a phaser, phase by phase
+pub out_is : (stages items i : ℕ) → i < stages + 1 → (q : ℕ)
+    → out_if (pipeline_shape stages items) i (items + i) q ≡ values_in i items q
+out_is stages items i lt q = rw (le-leb i stages (inside i lt)) refl
+  where
+    inside : (i : ℕ) → i < stages + 1 → i ≤ stages
+    inside i h = omega arith
 
 -- ---- the whole run
 
 module _ (l : Limits) (stages items : ℕ) (few_items : items ≤ most_items) (few_stages : stages ≤ 15)
     (w : List WorldEvent)
     (whole : IsWhole pipeline_next (root_task stages items) l w) where
-  k : is_legal_world l w ≡ true
-  k = whole.smooth.legal
+  abbrev s : Shape
+  s = pipeline_shape stages items
 
-  h : Holds stages items w
-  h = holds l stages items few_items few_stages w (smoothly pipeline_next (root_task stages items) l w whole.smooth)
+  p : Plan s
+  p = pipeline_plan stages items few_items few_stages
 
-  plain : IsPlain l w
-  plain = record { legal = k; plain = h.stands.plain }
+  last : stages < stages + 1
+  last = omega arith
 
-  there : (i : ℕ) → i ≤ stages → IsThere i w
-  there i le = all_there l stages items w h.stands k (ended_ends l 0 w plain whole.ended) i le
+  -- the values of the last phaser are the items behind all stages
+  sent_last : (q : ℕ) → sent 0 q (phaser_past stages w) ≡ values_in stages items q
+  sent_last q = values s p l w whole stages last q ∙ out_is stages items stages last q
 
-  -- the values of each phaser are the items behind as many stages
-  pub values : (i p : ℕ) → i ≤ stages → sent 0 p (phaser_past i w) ≡ values_in i items p
-  values i p le =
-      let t = there i le in
-      let task : TaskStands stages items i t.task w = h.stands.tasks i t.task t.child in
-      let gone = has_left l w plain whole.ended t.task i t.registered in
-      let done : task.done ≡ items + i =
-      le_both_ways task.done (items + i) task.most (task.over (dropped_ends l t.task i w plain gone)) in
-      task.values p ∙ (ap (λ m. out_if stages i m p) done
-      ∙ ap (λ b. cond (nat_lt p (items + i)) (cond b (value_seen (items_at i p)) []) []) (le-leb i stages le))
+  abbrev read : List FoldLine → List ℤ
+  read fs = flat_map (λ (f : FoldLine). value_seen f.value) fs
 
-  some : (i : ℕ) → i ≤ stages → is_empty (phaser_past i w) ≡ false
-  some i le = let t = there i le in some_registered t.task (phaser_past i w) t.registered
-
-  pub is_made : (i : ℕ) → i ≤ stages → is_phaser i w ≡ true
-  is_made i le = ap (λ b. not b) (some i le)
-
-  -- the folds of the last phaser
+  -- its folds
   folded : (ns : List ℕ)
-      → flat_map (λ (f : FoldLine). value_seen f.value)
-      (flat_map (λ p. folds_from p 0 (Least ∷ []) (phaser_past stages w)) ns)
-      ≡ flat_map (values_in stages items) ns
+      → read (flat_map (λ q. folds_from q 0 (Least ∷ []) (phaser_past stages w)) ns) ≡ flat_map (values_in stages items) ns
   folded [] = refl
-  folded (p ∷ ns) =
-      ap (λ xs. value_seen (fold Least xs) ++ flat_map (λ (f : FoldLine). value_seen f.value)
-      (flat_map (λ p. folds_from p 0 (Least ∷ []) (phaser_past stages w)) ns)) (values stages p (le_self stages))
-      ∙ (ap (λ xs. xs ++ flat_map (λ (f : FoldLine). value_seen f.value)
-      (flat_map (λ p. folds_from p 0 (Least ∷ []) (phaser_past stages w)) ns))
-      (kept (nat_lt p (items + stages)) p)
-      ∙ ap (λ xs. values_in stages items p ++ xs) (folded ns))
+  folded (q ∷ ns) =
+      let after = read (flat_map (λ q. folds_from q 0 (Least ∷ []) (phaser_past stages w)) ns) in
+      ap (λ xs. value_seen (fold Least xs) ++ after) (sent_last q)
+      ∙ (ap (λ xs. xs ++ after) (kept (nat_lt q (items + stages)) q)
+      ∙ ap (λ xs. values_in stages items q ++ xs) (folded ns))
     where
-      kept : (b : Bool) (p : ℕ) → value_seen (fold Least (cond b (value_seen (items_at stages p)) []))
-          ≡ cond b (value_seen (items_at stages p)) []
-      kept true p = least_kept (items_at stages p)
-      kept false p = refl
+      kept : (b : Bool) (q : ℕ) → value_seen (fold Least (cond b (value_seen (items_at stages q)) []))
+          ≡ cond b (value_seen (items_at stages q)) []
+      kept true q = ap (λ y. value_seen y) (least_seen (items_at stages q))
+      kept false q = refl
 
   -- all phases of items are the history's
   counted : (n : ℕ) → n ≡ items → flat_map (values_in stages items) (range_with_len 0
@@ -258,13 +172,13 @@ module _ (l : Limits) (stages items : ℕ) (few_items : items ≤ most_items) (f
       ≡ map (λ x. pos (pipeline_item stages x)) (range_with_len (0 + 1) i)) e
       (no_values stages 0 (phase_count (phaser_past stages w)))
   counted (suc n) e =
-      let last : values_in stages items (stages + n) ≡ pos (pipeline_item stages (n + 1)) ∷ [] =
+      let item_last : values_in stages items (stages + n) ≡ pos (pipeline_item stages (n + 1)) ∷ [] =
       ap (λ b. cond b (value_seen (items_at stages (stages + n))) [])
       (lt-ltb (stages + n) (items + stages) (inside n e))
       ∙ ap (λ x. value_seen x) (items_in_order stages n) in
       let long : stages + n < phase_count (phaser_past stages w) =
       sent_counts (stages + n) (pos (pipeline_item stages (n + 1))) (phaser_past stages w)
-      (values stages (stages + n) (le_self stages) ∙ last) in
+      (sent_last (stages + n) ∙ item_last) in
       all_values stages items 0 stages (phase_count (phaser_past stages w)) (zero_plus stages)
       (room n (phase_count (phaser_past stages w)) e long)
     where
@@ -278,23 +192,23 @@ module _ (l : Limits) (stages items : ℕ) (few_items : items ≤ most_items) (f
       (range_with_len (0 + 1) items)
   line =
       let past = phaser_past stages w in
-      let ops : ops_of stages w ≡ Least ∷ [] = (made l Least stages w plain h.stands.made (some stages (le_self stages))).ops in
-      ap (λ b. cond b (flat_map (λ (f : FoldLine). value_seen f.value) (phaser_lines w stages).folds) [])
-      (eq-eqb stages stages refl)
-      ∙ (ap (λ os. flat_map (λ (f : FoldLine). value_seen f.value)
-      (flat_map (λ p. folds_from p 0 os past) (range_with_len 0 (phase_count past)))) ops
+      ap (λ b. cond b (read (phaser_lines w stages).folds) []) (eq-eqb stages stages refl)
+      ∙ (ap (λ os. read (flat_map (λ q. folds_from q 0 os past) (range_with_len 0 (phase_count past))))
+      (ops s p l w whole stages last)
       ∙ (folded (range_with_len 0 (phase_count past)) ∙ counted items refl))
 
   comes_to : items_of stages (report_of l w) ≡ map pos (pipeline stages items)
   comes_to =
       one_read (phaser_lines w) (values_of stages) (λ j. is_phaser j w) stages
-      (map (λ i. pos (pipeline_item stages i)) (range_with_len (0 + 1) items)) (is_made stages (le_self stages)) line
-      (λ j e. ap (λ b. cond b (flat_map (λ (f : FoldLine). value_seen f.value) (phaser_lines w j).folds) [])
-      e)
-      0 l.phasers (zero_least stages) (lt_zero_plus stages l.phasers (phaser_fits l stages w k (is_made stages (le_self stages))))
+      (map (λ i. pos (pipeline_item stages i)) (range_with_len (0 + 1) items)) (is_made s p l w whole stages last) line
+      (λ j e. ap (λ b. cond b (read (phaser_lines w j).folds) []) e)
+      0 l.phasers (zero_least stages) (lt_zero_plus stages l.phasers (first_fits l.phasers (fits s p l w whole)))
       ∙ (ap (λ a. map (λ i. pos (pipeline_item stages i)) (range_with_len a items)) one
       ∙ sym (map_twice (λ x. pos x) (pipeline_item stages) (range_with_len 1 items)))
     where
+      first_fits : (n : ℕ) → stages + 1 ≤ n → stages < n
+      first_fits n h = omega arith
+
       one : ◌≡◌ {A = ℕ} (0 + 1) 1
       one = omega arith
 

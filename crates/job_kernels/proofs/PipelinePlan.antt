@@ -1,19 +1,54 @@
--- The tasks of a pipeline, by what they have left to do: what each does next, and what is left after that.
-use Rattle.std.proofs.Common.{ℕ, ℤ, zero, suc, pos, ◌+◌, ◌≡◌, ◌≤◌, ◌<◌, ◌∙◌, ◌⊎◌, inl, inr, Bool, true, false, cond, List, [], ◌∷◌, ◌++◌, flat_map, nat_le, nat_lt, refl, sym, ap, subst, add-one, arith}
+-- The plan of a pipeline: what its root, the source, each stage and the sink do next, and what is left to them after that.
+use Rattle.std.proofs.Common.{ℕ, ℤ, zero, suc, pos, ◌+◌, ◌≡◌, ◌≤◌, ◌<◌, ◌==◌, ◌∙◌, ◌⊎◌, inl, inr, Bool, true, false, cond, List, [], ◌∷◌, ◌++◌, flat_map, nat_le, nat_lt, refl, sym, ap, subst, add-one, arith}
 use Rattle.std.specs.List.{range_with_len}
-use Rattle.std.proofs.lemmas.Bool.{cases_Bool, lt-leb, ltb-true, ltb-false}
+use Rattle.std.proofs.lemmas.Bool.{cases_Bool, eq-eqb, ne_eqb, le-leb, lt-leb, lt-ltb, ltb-true, ltb-false}
+use Rattle.phase_modes.specs.declared.phased.Pair.{Pair}
+use Rattle.phase_modes.specs.declared.reg.Mode.TheVariants.{Sig, Wait}
 use Rattle.phase_model.specs.declared.op.Look.{Look as Looked}
 use Rattle.phase_model.specs.declared.op.Look.TheVariants.{Value, Nothing}
+use Rattle.phase_model.specs.declared.op.Op.TheVariants.{Least}
+use Rattle.phase_model.specs.Values.{fold}
 use Rattle.job_script.specs.declared.act.Act.TheVariants as acts
+use Rattle.job_script.specs.declared.act.Act.TheVariants.{Async}
 use Rattle.job_script.specs.declared.act.Answer.TheVariants.{Started, Done, Saw}
+use Rattle.job_kernels.specs.declared.pipeline_body.Role.TheVariants as kinds
 use Rattle.job_kernels.specs.declared.pipeline_body.PipelineBody.{PipelineBody}
 use Rattle.job_kernels.specs.Results.{value_seen}
-use Rattle.job_kernels.specs.Tasks.{Does, Line, GoesBy}
-use Rattle.job_kernels.specs.PipelineTasks.{most_items, source_task, stage_task, sink_task, pipeline_next}
-use Rattle.job_kernels.specs.PipelineLines.{items_at, sending, source_lines, stage_lines, sink_lines}
+use Rattle.job_kernels.specs.Tasks.{Does, Line, GoesBy, pair_on}
+use Rattle.job_kernels.specs.PipelineTasks.{most_items, source_task, stage_task, sink_task, spawn, pipeline_next}
+use Rattle.job_kernels.specs.PipelineLines.{items_at, sending, source_lines, stage_lines, sink_lines, RootSpawnsStages}
 use Rattle.job_kernels.proofs.PipelineRuns.{source_goes_by_pipeline, stages_go_by_pipeline, sink_sees_all}
-use Rattle.job_kernels.proofs.Numbers.{le_next, le_self, lt_next_le, next_on, next_on_le, none_below_zero, part_le, without_zero, zero_least, zero_plus}
-use Rattle.job_kernels.proofs.PipelineRoot.{task_of}
+use Rattle.job_kernels.proofs.Numbers.{le_next, le_self, lt_next_le, next_on, none_below_zero, not_its_next, part_le, without_zero, zero_least, zero_plus}
+use Rattle.job_kernels.proofs.Joining.{HasOwn}
+use Rattle.job_kernels.proofs.Plans.{Shape, TaskStep, Starts, Rooted, Plan, root_goes}
+
+-- ---- the root
+
+-- the child of a place, and the phasers that it is handed
+abbrev task_of : ℕ → ℕ → ℕ → PipelineBody
+task_of stages items zero = source_task items
+task_of stages items (suc j) = cond (nat_lt j stages) (stage_task items j) (sink_task items stages)
+
+abbrev pub pairs_of : ℕ → ℕ → List Pair
+pairs_of stages zero = pair_on 0 Sig ∷ []
+pairs_of stages (suc j) =
+    cond (nat_lt j stages) (pair_on j Wait ∷ pair_on (j + 1) Sig ∷ []) (pair_on stages Wait ∷ [])
+
+spawn_is : (stages items i : ℕ) → spawn items stages i ≡ Async (task_of stages items i) (pairs_of stages i)
+spawn_is stages items zero = refl
+spawn_is stages items (suc j) = by_test (nat_lt j stages)
+  where
+    by_test : (b : Bool) → cond b (Async (stage_task items j) (pair_on j Wait ∷ pair_on (j + 1) Sig ∷ []))
+        (Async (sink_task items stages) (pair_on stages Wait ∷ []))
+        ≡ Async (cond b (stage_task items j) (sink_task items stages))
+        (cond b (pair_on j Wait ∷ pair_on (j + 1) Sig ∷ []) (pair_on stages Wait ∷ []))
+    by_test true = refl
+    by_test false = refl
+
+-- the root after so many phasers and children
+abbrev root_body : ℕ → ℕ → ℕ → ℕ → PipelineBody
+root_body stages items m s =
+    record { role = kinds.Root (record { stages = stages; items = items; made = m; spawned = s }) }
 
 -- ---- lines
 
@@ -76,18 +111,48 @@ pub data TaskAt (stages items i k done : ℕ) (d : Does PipelineBody) : Type 0 w
       → Goes d ((acts.Send i 0 v, Done) ∷ reader_left stages j k r) → TaskAt stages items i k done d
   ends : (j : ℕ) → i ≡ suc j → k ≡ items + j → done ≡ k + 1 → Goes d [] → TaskAt stages items i k done d
 
--- what it does next
-pub data TaskStep (stages items i k done : ℕ) (d : Does PipelineBody) : Type 0 where
-  to_send : (v : ℤ) → d.0 ≡ acts.Send i 0 v → i ≤ stages → items_at i k ≡ Value v → done ≡ k
-      → k + 1 ≤ items + i
-      → TaskAt stages items i k (k + 1) (pipeline_next Done d.1) → TaskStep stages items i k done d
-  to_look : (j p next : ℕ) → i ≡ suc j → d.0 ≡ acts.Look j 0 → k ≡ p + 1 → k ≤ items + j → k ≤ next
-      → next ≤ items + i → (next ≡ done) ⊎ ((next ≡ done + 1) × (out stages i done ≡ []))
-      → TaskAt stages items i k next (pipeline_next (Saw (items_at j p)) d.1)
-      → TaskStep stages items i k done d
-  to_turn : d.0 ≡ acts.Next → k + 1 ≤ total items i → k + 1 ≤ done
-      → TaskAt stages items i (k + 1) done (pipeline_next Done d.1) → TaskStep stages items i k done d
-  to_end : d.0 ≡ acts.End → items + i ≤ done → k ≡ total items i → TaskStep stages items i k done d
+abbrev pub pipeline_shape : ℕ → ℕ → Shape
+pipeline_shape stages items = record {
+  Body = PipelineBody;
+  next = pipeline_next;
+  op = Least;
+  phasers = stages + 1;
+  children = stages + 2;
+  root = root_body stages items;
+  task = task_of stages items;
+  pairs = pairs_of stages;
+  out = out stages;
+  seen = items_at;
+  phases = λ i. items + i;
+  turns_of = total items;
+  At = TaskAt stages items;
+}
+
+rooted : (stages items : ℕ) → Rooted (pipeline_shape stages items)
+rooted stages items =
+    record {
+      makes = λ x m n lt. rw (le-leb m stages (inside m stages lt)) refl;
+      spawns = λ x m n all lt. rw (lt-leb m stages (beyond m stages all), le-leb n (stages + 1) (second n stages lt))
+          (ap (λ b. (b, root_body stages items m (n + 1))) (spawn_is stages items n));
+      ends = λ x m n all full.
+          rw (lt-leb m stages (beyond m stages all), lt-leb n (stages + 1) (behind n stages full)) refl;
+    }
+  where
+    inside : (m n : ℕ) → m < n + 1 → m ≤ n
+    inside m n h = omega arith
+
+    beyond : (m n : ℕ) → n + 1 ≤ m → n < m
+    beyond m n h = omega arith
+
+    second : (m n : ℕ) → m < n + 2 → m ≤ n + 1
+    second m n h = omega arith
+
+    behind : (m n : ℕ) → n + 2 ≤ m → n + 1 < m
+    behind m n h = omega arith
+
+pub root_spawns_stages : RootSpawnsStages
+root_spawns_stages items stages =
+    root_goes (pipeline_shape stages items) (rooted stages items) (spawn items stages) (spawn_is stages items)
 
 -- ---- from one line to the next
 
@@ -152,35 +217,35 @@ module _ (stages items : ℕ) where
       no_phaser : out stages (suc j) (p + 1) ≡ []
       no_phaser = rw (lt-leb (suc j) stages (beyond j stages (ltb-false j stages lt))) refl
 
-  step_of : (i k done : ℕ) (d : Does PipelineBody) → TaskAt stages items i k done d
-      → TaskStep stages items i k done d
-  step_of i k done d (TaskAt.source_sends r z e c goes) =
+  out_is : (i k : ℕ) (v : ℤ) → i ≤ stages → items_at i k ≡ Value v → out stages i k ≡ v ∷ []
+  out_is i k v le is = rw (le-leb i stages le) (ap (λ y. value_seen y) is)
+
+  step_of : (i k done : ℕ) (d : Does PipelineBody) → i < stages + 2 → TaskAt stages items i k done d
+      → TaskStep (pipeline_shape stages items) i k done d
+  step_of i k done d lt (TaskAt.source_sends r z e c goes) =
       TaskStep.to_send (pos (k + 1))
       (goes.0 ∙ ap (λ x. acts.Send x 0 (pos (k + 1))) (sym z))
-      (subst (λ x. x ≤ stages) (sym z) (zero_least stages))
-      (ap (λ x. items_at x k) z) c
+      (out_is i k (pos (k + 1)) (subst (λ x. x ≤ stages) (sym z) (zero_least stages)) (ap (λ x. items_at x k) z)) c
       (subst (λ x. k + 1 ≤ items + x) (sym z) (room k r items e))
       (subst (λ x. TaskAt stages items x k (k + 1) (pipeline_next Done d.1)) (sym z)
       (TaskAt.source_turns r refl e refl goes.1))
     where
       room : (k r n : ℕ) → k + suc r ≡ n → k + 1 ≤ n + 0
       room k r n h = omega arith
-  step_of i k done d (TaskAt.source_turns r z e c goes) =
-      TaskStep.to_turn goes.0 (subst (λ x. k + 1 ≤ total items x) (sym z) (next_on_le k r items e))
-      (subst (λ x. k + 1 ≤ x) (sym c) (le_self (k + 1)))
+  step_of i k done d lt (TaskAt.source_turns r z e c goes) =
+      TaskStep.to_turn goes.0 (subst (λ x. k + 1 ≤ x) (sym c) (le_self (k + 1)))
       (subst (λ x. TaskAt stages items x (k + 1) done (pipeline_next Done d.1)) (sym z)
       (subst (λ x. TaskAt stages items 0 (k + 1) x (pipeline_next Done d.1)) (sym c)
       (source_at (k + 1) r (pipeline_next Done d.1) (next_on k r items e) goes.1)))
-  step_of i k done d (TaskAt.source_ends z e c goes) =
+  step_of i k done d lt (TaskAt.source_ends z e c goes) =
       TaskStep.to_end goes (covers i k done z e c) (e ∙ ap (λ x. total items x) (sym z))
     where
       covers : (i k done : ℕ) → i ≡ 0 → k ≡ items → done ≡ k → items + i ≤ done
       covers i k done a b c = omega arith
-  step_of i k done d (TaskAt.turns j r z e c goes) =
-      TaskStep.to_turn goes.0 (subst (λ x. k + 1 ≤ total items x) (sym z) (next_on_le k r (items + j) e))
-      (subst (λ x. k + 1 ≤ x) (sym c) (le_self (k + 1)))
+  step_of i k done d lt (TaskAt.turns j r z e c goes) =
+      TaskStep.to_turn goes.0 (subst (λ x. k + 1 ≤ x) (sym c) (le_self (k + 1)))
       (TaskAt.looks j k r z refl (next_on k r (items + j) e) c goes.1)
-  step_of i k done d (TaskAt.looks j p r z t e c goes) =
+  step_of i k done d lt (TaskAt.looks j p r z t e c goes) =
       let after : Goes (pipeline_next (Saw (items_at j p)) d.1)
       (sends_of stages j p ++ reader_left stages j (p + 1) r) =
       subst (λ x. Goes (pipeline_next (Saw (items_at j p)) d.1)
@@ -191,7 +256,7 @@ module _ (stages items : ℕ) where
       refl
       (subst (λ x. x + r ≡ items + j) t e) after in
       let same : done ≡ p + 1 = c ∙ t in
-      TaskStep.to_look j p s.next z goes.0 t (part_le k r (items + j) e)
+      TaskStep.to_look j p s.next goes.0 (inside i j z lt) t (part_le k r (items + j) e)
       (subst (λ x. x ≤ s.next) (sym t) s.least)
       (subst (λ x. s.next ≤ items + x) (sym z) (bound s.next p r j k s.most t e))
       (elim s.so [
@@ -205,33 +270,25 @@ module _ (stages items : ℕ) where
       (subst (λ x. TaskAt stages items (suc j) x s.next (pipeline_next (Saw (items_at j p)) d.1)) (sym t)
       s.at))
     where
+      inside : (i j : ℕ) → i ≡ suc j → i < stages + 2 → j < stages + 1
+      inside i j a b = omega arith
+
       bound : (x p r j k : ℕ) → x ≤ (p + 1) + 1 → k ≡ p + 1 → k + r ≡ items + j → x ≤ items + suc j
       bound x p r j k a b c = omega arith
-  step_of i k done d (TaskAt.sends j r v z le e c is goes) =
-      TaskStep.to_send v goes.0 le is c (subst (λ x. k + 1 ≤ items + x) (sym z) (room k r j e))
+  step_of i k done d lt (TaskAt.sends j r v z le e c is goes) =
+      TaskStep.to_send v goes.0 (out_is i k v le is) c (subst (λ x. k + 1 ≤ items + x) (sym z) (room k r j e))
       (subst (λ x. TaskAt stages items x k (k + 1) (pipeline_next Done d.1)) (sym z)
       (reader_at j k r (pipeline_next Done d.1) e goes.1))
     where
       room : (k r j : ℕ) → k + r ≡ items + j → k + 1 ≤ items + suc j
       room k r j h = omega arith
-  step_of i k done d (TaskAt.ends j z e c goes) =
+  step_of i k done d lt (TaskAt.ends j z e c goes) =
       TaskStep.to_end goes (covers i j k done z e c) (e ∙ ap (λ x. total items x) (sym z))
     where
       covers : (i j k done : ℕ) → i ≡ suc j → k ≡ items + j → done ≡ k + 1 → items + i ≤ done
       covers i j k done a b c = omega arith
 
--- what comes next to a task
-pub task_step : (stages items i k done : ℕ) (d : Does PipelineBody) → TaskAt stages items i k done d
-    → TaskStep stages items i k done d
-task_step stages items i k done d t = step_of stages items i k done d t
-
 -- ---- at its start
-
-pub record Starts (stages items i : ℕ) : Type 0 where
-  pub done : ℕ
-  pub at : TaskAt stages items i 0 done (pipeline_next Started (task_of stages items i))
-  pub most : done ≤ items + i
-  pub none : (p : ℕ) → p < done → out stages i p ≡ []
 
 none_at_first : (stages j p : ℕ) → p < 0 + 1 → out stages (suc j) p ≡ []
 none_at_first stages j zero lt = nothing (nat_le (suc j) stages)
@@ -244,22 +301,23 @@ none_at_first stages j (suc p) lt = absurd (no_more p lt)
     no_more : (p : ℕ) → suc p < 0 + 1 → ⊥
     no_more p h = omega arith
 
-pub task_starts : (stages items i : ℕ) → items ≤ most_items → stages ≤ 15 → i ≤ stages + 1 → Starts stages items i
-task_starts stages items zero few small le =
+task_starts : (stages items i : ℕ) → items ≤ most_items → stages ≤ 15 → i < stages + 2
+    → Starts (pipeline_shape stages items) i
+task_starts stages items zero few small lt =
     record {
       done = 0;
       at = source_at stages items 0 items (pipeline_next Started (source_task items)) (zero_plus items)
           (source_goes_by_pipeline items few);
       most = zero_least (items + 0);
-      none = λ p lt. absurd (none_below_zero p lt);
+      none = λ p below. absurd (none_below_zero p below);
     }
-task_starts stages items (suc j) few small le =
+task_starts stages items (suc j) few small lt =
     record {
       done = 0 + 1;
       at = reader_at stages items j 0 (items + j) (pipeline_next Started (task_of stages items (suc j)))
           (zero_plus (items + j)) goes;
       most = room items j;
-      none = λ p lt. none_at_first stages j p lt;
+      none = λ p below. none_at_first stages j p below;
     }
   where
     room : (n j : ℕ) → 0 + 1 ≤ n + suc j
@@ -268,7 +326,7 @@ task_starts stages items (suc j) few small le =
     below : (j : ℕ) → j < stages → stages ≤ 15 → j < 15
     below j a b = omega arith
 
-    last : (j n : ℕ) → suc j ≤ n + 1 → n ≤ j → j ≡ n
+    last : (j n : ℕ) → suc j < n + 2 → n ≤ j → j ≡ n
     last j n a b = omega arith
 
     goes : Goes (pipeline_next Started (task_of stages items (suc j))) (reader_left stages j 0 (items + j))
@@ -281,7 +339,7 @@ task_starts stages items (suc j) few small le =
               (stage_left stages j (range_with_len 0 (items + j)) e)
               (stages_go_by_pipeline items j few (below j (ltb-true j stages e) small)).1)
           | inr e ↦
-              let same : j ≡ stages = last j stages le (ltb-false j stages e) in
+              let same : j ≡ stages = last j stages lt (ltb-false j stages e) in
               subst (λ b. Goes (pipeline_next Started (cond b (stage_task items j) (sink_task items stages)))
               (reader_left stages j 0 (items + j))) (sym e)
               (subst (λ xs. Goes (pipeline_next Started (sink_task items stages)) xs)
@@ -289,3 +347,49 @@ task_starts stages items (suc j) few small le =
               ∙ sink_left stages j (range_with_len 0 (items + j)) e)
               (sink_sees_all items stages items_at))
         ]
+
+-- ---- the phasers of a task
+
+-- the source, and the stage behind each phaser but the last, can signal on the phaser of their place
+has_own : (stages i : ℕ) → i ≤ stages → HasOwn (pairs_of stages i) i
+has_own stages zero le =
+    record { there = λ c. rw (eq-eqb c c refl) refl; strong = λ c. rw (eq-eqb c c refl) refl }
+has_own stages (suc j) le =
+    let next : (j + 1 == suc j) ≡ true = eq-eqb (j + 1) (suc j) (add-one j) in
+    let apart : (j == suc j) ≡ false = ne_eqb j (suc j) (λ e. not_its_next j e) in
+    let inside : nat_lt j stages ≡ true = lt-ltb j stages (within j stages le) in
+    record {
+      there = λ c. rw (inside, apart, next, eq-eqb c c refl) refl;
+      strong = λ c. rw (inside, apart, next, eq-eqb c c refl) refl;
+    }
+  where
+    within : (j n : ℕ) → suc j ≤ n → j < n
+    within j n h = omega arith
+
+-- ---- all of it
+
+-- a look sees the value that was sent, if one was
+pub least_seen : (x : Looked ℤ) → fold Least (value_seen x) ≡ x
+least_seen (Value v) = refl
+least_seen Nothing = refl
+
+pub pipeline_plan : (stages items : ℕ) → items ≤ most_items → stages ≤ 15 → Plan (pipeline_shape stages items)
+pipeline_plan stages items few small =
+    record {
+      rooted = rooted stages items;
+      starts = λ i lt. task_starts stages items i few small lt;
+      steps = λ i k done d lt at. step_of stages items i k done d lt at;
+      enough = one_more stages;
+      own = λ i lt. has_own stages i (inside i stages lt);
+      folds = λ i p lt. rw (le-leb i stages (inside i stages lt)) (least_seen (items_at i p));
+      silent = λ i p far lt. rw (lt-leb i stages (beyond i stages far)) refl;
+    }
+  where
+    one_more : (n : ℕ) → n + 1 ≤ n + 2
+    one_more n = omega arith
+
+    inside : (m n : ℕ) → m < n + 1 → m ≤ n
+    inside m n h = omega arith
+
+    beyond : (m n : ℕ) → n + 1 ≤ m → n < m
+    beyond m n h = omega arith
