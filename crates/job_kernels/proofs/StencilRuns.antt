@@ -12,7 +12,7 @@ use Rattle.job_kernels.specs.declared.stencil_body.Moment.{Moment}
 use Rattle.job_kernels.specs.declared.stencil_body.Moment.TheVariants.{Sends, Turns, LooksLeft, LooksRight}
 use Rattle.job_kernels.specs.declared.stencil_body.Role.TheVariants as kinds
 use Rattle.job_kernels.specs.declared.stencil_body.StencilBody.{StencilBody}
-use Rattle.job_kernels.specs.Stencil.{weighed, cell_after, stencil_step, stencil, AtMost}
+use Rattle.job_kernels.specs.Stencil.{weighed, cell_before, cell_after, stencil_step, stencil, AtMost}
 use Rattle.job_kernels.specs.Tasks.{value_of, Does, Line, GoesBy}
 use Rattle.job_kernels.specs.StencilTasks.{greatest, looks_right, stencil_next, cell_task}
 use Rattle.job_kernels.specs.StencilLines.{cells_at, step_lines, cell_lines}
@@ -64,14 +64,24 @@ length-stencil zero cells = refl
 length-stencil (suc steps) cells = length-map-range_with_len (cell_after (stencil steps cells)) 0 (length (stencil steps cells)) ∙ length-stencil steps cells
 
 -- a cell of the next row
-pub step_at : (values : List ℕ) (n i : ℕ) → length values ≡ n → i < n → get_or (stencil_step values) i 0 ≡ cell_after values i
+step_at : (values : List ℕ) (n i : ℕ) → length values ≡ n → i < n → get_or (stencil_step values) i 0 ≡ cell_after values i
 step_at values n i e h = get_or-map-range_with_len (cell_after values) 0 (length values) i i 0 (omega (arith, e)) (omega arith)
 
 -- a neighbour outside the row counts as 0
-pub right_value : (b : Bool) (values : List ℕ) (n r : ℕ) → length values ≡ n → nat_lt r n ≡ b →
+right_value : (b : Bool) (values : List ℕ) (n r : ℕ) → length values ≡ n → nat_lt r n ≡ b →
     (if b then get_or values r 0 else 0) ≡ get_or values r 0
 right_value true values n r e t = refl
 right_value false values n r e t = sym (get_or_past values r 0 (omega (arith, e, ltb-false r n t)))
+
+-- what cell i weighs in a step is the cell of the next row, if it holds that on its left
+pub next_value : (first : List ℕ) (t i left : ℕ) → i < length first → left ≡ cell_before (stencil t first) i
+    → weighed left (get_or (stencil t first) i 0)
+    (if nat_lt (i + 1) (length first) then get_or (stencil t first) (i + 1) 0 else 0)
+    ≡ get_or (stencil (suc t) first) i 0
+next_value first t i left lt is =
+    let values : List ℕ = stencil t first in
+    rw (is, right_value (nat_lt (i + 1) (length first)) values (length first) (i + 1) (length-stencil t first) refl)
+    (sym (step_at values (length first) i (length-stencil t first) lt))
 
 -- from the end of a turn on
 go : (first : List ℕ) (i : ℕ) → AtMost greatest first → i < length first → (t k l : ℕ) →
@@ -86,9 +96,7 @@ go first zero h lt t (suc k) l =
     let rest : Goes (stencil_next Done (cell 0 n k v 0 Turns)) lines =
     let P : ℕ → Type 0 = λ u. Goes (stencil_next Done (cell 0 n k v 0 Turns)) (flat_map (step_lines (cells_at first) (length first) 0) (range_with_len u k)) in
     subst P (sym (add-one t)) (go first 0 h lt (suc t) k 0) in
-    let value : weighed 0 (get_or values 0 0) (if nat_lt (0 + 1) n then get_or values (0 + 1) 0 else 0) ≡ v =
-    ap (weighed 0 (get_or values 0 0)) (right_value (nat_lt (0 + 1) n) values n (0 + 1) (length-stencil t first) refl)
-    ∙ sym (step_at values n 0 (length-stencil t first) lt) in (
+    let value = next_value first t 0 0 lt refl in (
       refl,
       right_goes (nat_lt (0 + 1) n) LooksLeft values 0 n (0 + 1) k (get_or values 0 0) 0 v lines value
           (stays_at_most greatest (suc t) first h 0) (stays_at_most greatest t first h (0 + 1)) rest,
@@ -103,10 +111,8 @@ go first (suc j) h lt t (suc k) l =
     let rest : Goes (stencil_next Done (cell i n k v left Turns)) lines =
     let P : ℕ → Type 0 = λ u. Goes (stencil_next Done (cell i n k v left Turns)) (flat_map (step_lines (cells_at first) (length first) i) (range_with_len u k)) in
     subst P (sym (add-one t)) (go first i h lt (suc t) k left) in
-    let value : weighed left (get_or values i 0) (if nat_lt (i + 1) n then get_or values (i + 1) 0 else 0) ≡ v =
-    ap (λ x. weighed x (get_or values i 0) (if nat_lt (i + 1) n then get_or values (i + 1) 0 else 0)) (value-small (get_or values j 0) (stays_at_most greatest t first h j))
-    ∙ (ap (weighed (get_or values j 0) (get_or values i 0)) (right_value (nat_lt (i + 1) n) values n (i + 1) (length-stencil t first) refl)
-    ∙ sym (step_at values n i (length-stencil t first) lt)) in (
+    let value =
+    next_value first t i left lt (value-small (get_or values j 0) (stays_at_most greatest t first h j)) in (
       refl,
       (
         refl,

@@ -15,7 +15,7 @@ use Rattle.job_kernels.specs.Tasks.{value_of, Line}
 use Rattle.job_kernels.specs.StencilTasks.{greatest, looks_right, right_of, stencil_next}
 use Rattle.job_kernels.specs.StencilLines.{cells_at, step_lines, CellGoesBy}
 use Rattle.job_kernels.proofs.Bounds.{stays_at_most}
-use Rattle.job_kernels.proofs.StencilRuns.{value-small, cell, Goes, length-stencil, step_at, right_value}
+use Rattle.job_kernels.proofs.StencilRuns.{value-small, cell, Goes, next_value}
 
 -- what is sent is what the task holds
 back_send : (i n steps x v l : ℕ) (w : ℤ) (lines : List (Line StencilBody)) → x ≡ v → v ≤ greatest →
@@ -67,9 +67,7 @@ next_step first sent t k zero h so lt at =
     let n : ℕ = length first in
     let v : ℕ = get_or (stencil (suc t) first) 0 0 in
     let lines : List (Line StencilBody) = flat_map (step_lines sent n 0) (range_with_len (t + 1) k) in
-    let value : weighed 0 (get_or values 0 0) (if nat_lt (0 + 1) n then get_or values (0 + 1) 0 else 0) ≡ v =
-    ap (weighed 0 (get_or values 0 0)) (right_value (nat_lt (0 + 1) n) values n (0 + 1) (length-stencil t first) refl)
-    ∙ sym (step_at values n 0 (length-stencil t first) lt) in
+    let value = next_value first t 0 0 lt refl in
     let after : (sent (suc t) 0 ≡ pos v) × Goes (stencil_next Done (cell 0 n k v 0 Turns)) lines =
     back_right (nat_lt (0 + 1) n) LooksLeft values 0 n (0 + 1) k (get_or values 0 0) 0 v (sent t) (sent (suc t) 0) lines value
     (stays_at_most greatest (suc t) first h 0) (stays_at_most greatest t first h (0 + 1))
@@ -82,10 +80,8 @@ next_step first sent t k (suc j) h so lt at =
     let v : ℕ = get_or (stencil (suc t) first) i 0 in
     let l : ℕ = value_of greatest (Saw (Value (pos (get_or values j 0)))) in
     let lines : List (Line StencilBody) = flat_map (step_lines sent n i) (range_with_len (t + 1) k) in
-    let value : weighed l (get_or values i 0) (if nat_lt (i + 1) n then get_or values (i + 1) 0 else 0) ≡ v =
-    ap (λ y. weighed y (get_or values i 0) (if nat_lt (i + 1) n then get_or values (i + 1) 0 else 0)) (value-small (get_or values j 0) (stays_at_most greatest t first h j))
-    ∙ (ap (weighed (get_or values j 0) (get_or values i 0)) (right_value (nat_lt (i + 1) n) values n (i + 1) (length-stencil t first) refl)
-    ∙ sym (step_at values n i (length-stencil t first) lt)) in
+    let value =
+    next_value first t i l lt (value-small (get_or values j 0) (stays_at_most greatest t first h j)) in
     let P : ℤ → Type 0 = λ z. Goes (stencil_next (Saw (Value z)) (cell i n k (get_or values i 0) at.left LooksRight))
     ((map (λ y. (Look y 0, Saw (Value (sent t y)))) (right_of n i) ++ (Send i 0 (sent (suc t) i), Done) ∷ []) ++ lines) in
     let seen : P (pos (get_or values j 0)) = subst P (so j (omega arith)) at.goes.1.1 in
