@@ -36,7 +36,7 @@ module _ (s : Shape) (p : Plan s) (l : Limits) where
   open s use {Body, next, op, phasers, children, root, task, pairs, out, seen, phases, turns_of, At}
 
   -- what an act sees, if it is a look
-  abbrev pub SeesOf : List WorldEvent → ℕ → Tried → Type 0
+  abbrev SeesOf : List WorldEvent → ℕ → Tried → Type 0
   SeesOf w t (Looking n x) = LookSees s w n t x
   SeesOf w t _ = Unit {0}
 

@@ -48,7 +48,7 @@ module _ (l : Limits) (w : List WorldEvent) (k : IsPlain l w) (over : is_ended 0
   must_drop false b e r = absurd (false≢true r)
 
   -- each task has left each phaser on which it was registered
-  pub has_left : (t n : ℕ) → is_registered t (phaser_past n w) ≡ true → is_dropped t (phaser_past n w) ≡ true
+  has_left : (t n : ℕ) → is_registered t (phaser_past n w) ≡ true → is_dropped t (phaser_past n w) ≡ true
   has_left t n r =
       must_drop (is_registered t (phaser_past n w)) (is_dropped t (phaser_past n w))
       ((ended_roots_leave_nobody l w k.legal over).1 t n) r

@@ -22,31 +22,24 @@ use Rattle.world_model.proofs.DueHolds.{due_has}
 use Rattle.world_model.proofs.PhasersLegal.{event_of}
 use Rattle.world_model.proofs.LeavingList.{ends_act}
 use Rattle.world_model.proofs.LeavesAtEnds.{is_leave, leave_act, root_owner}
-use Rattle.job_kernels.proofs.Plain.{IsPlain, last_of_plain, is_plain, due_next, ends_stays, ends_never_idle, leaves_to_end}
+use Rattle.job_kernels.proofs.Plain.{IsPlain, last_of_plain, is_plain, due_next, ends_stays, ends_never_idle, by_last, leaves_to_end}
 
 -- the entry begins an end
 abbrev pub is_end : Option WorldEvent → Bool
 is_end (Some (Begin t End)) = true
 is_end _ = false
 
-by_entry : (t : ℕ) (e : WorldEvent) → is_plain e ≡ true → ends_act (Some e) ≡ true → is_end (Some e) ≡ true
-by_entry t (Begin u End) p q = refl
-by_entry t (Begin u b) p q = absurd (false≢true q)
-by_entry t (Refuse u b x) p q = absurd (false≢true p)
-by_entry t (Fail u x) p q = absurd (false≢true p)
-by_entry t (Phaser m s) p q = absurd (false≢true q)
-by_entry t (Finish f s) p q = absurd (false≢true q)
+by_entry : (t : ℕ) (e : WorldEvent) → is_plain e ≡ true → is_entry t e ≡ true → ends_act (Some e) ≡ true
+    → is_end (Some e) ≡ true
+by_entry t (Begin u End) p n q = refl
+by_entry t (Refuse u b x) p n q = absurd (false≢true p)
+by_entry t (Fail u x) p n q = absurd (false≢true p)
+by_entry t (Begin u b) p n q = absurd (false≢true q)
+by_entry t e p n q = absurd (false≢true q)
 
 ends_by_end : (t : ℕ) (w : List WorldEvent) → list_all is_plain w ≡ true
     → ends_act (last_entry t w) ≡ true → is_end (last_entry t w) ≡ true
-ends_by_end t [] k q = absurd (false≢true q)
-ends_by_end t (e ∷ w) k q =
-    let p = and_parts (is_plain e) (list_all is_plain w) k in
-    (elim (cases_Bool (is_entry t e)) as (λ x. ends_act (last_entry t (e ∷ w)) ≡ true
-    → is_end (last_entry t (e ∷ w)) ≡ true) [
-      | inl n ↦ rw n (λ r. by_entry t e p.0 r)
-      | inr n ↦ rw n (λ r. ends_by_end t w p.1 r)
-    ]) q
+ends_by_end t w k q = by_last (λ o. ends_act o) is_end t refl (by_entry t) w k q
 
 -- an idle task is in no act that ends it
 pub not_ending : (l : Limits) (w : List WorldEvent) → is_legal_world l w ≡ true → (t : ℕ) → is_idle t w ≡ true

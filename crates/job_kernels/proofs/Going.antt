@@ -1,7 +1,8 @@
 -- Where the tasks of a plan stand in each history in which they go on, as long as each look saw what it was to see.
-use Rattle.std.proofs.Common.{ℕ, ℤ, ◌+◌, ◌≡◌, ◌≤◌, ◌<◌, ◌∙◌, ◌⊎◌, inl, inr, Bool, true, false, ◌==◌, not, nat_lt, cond, List, [], ◌∷◌, Option, Some, None, refl, sym, ap, subst, arith}
+use Rattle.std.proofs.Common.{ℕ, ℤ, ◌+◌, ◌≡◌, ◌≤◌, ◌<◌, ◌∙◌, ◌⊎◌, inl, inr, Bool, true, false, ◌==◌, not, nat_lt, cond, List, [], ◌∷◌, ◌++◌, Option, Some, None, refl, sym, ap, subst, arith}
 use Rattle.std.specs.List.{list_any, list_all}
 use Rattle.std.proofs.lemmas.Bool.{and_from, or_parts, cases_Bool, eqb-true, eq-eqb, lt-ltb, le-ltb, ltb-true, ltb-false, true≢false, false≢true, false_from_ne_true}
+use Rattle.std.proofs.lemmas.List.{append-nil}
 use Rattle.std.proofs.lemmas.Option.{same_Some, none-some}
 use Rattle.phase_modes.specs.declared.limits.Limits.{Limits}
 use Rattle.phase_modes.specs.declared.reg.Mode.TheVariants.{SigWait}
@@ -110,34 +111,17 @@ module _ (s : Shape) where
         values = λ q. v q ∙ p.values q;
       }
 
-  -- one phase more is done in which there is nothing
-  nothing_more : (i done p : ℕ) → out i done ≡ [] → out_if i done p ≡ out_if i (done + 1) p
-  nothing_more i done p none = by_test (nat_lt p done) (done == p) refl refl
-    where
-      by_test : (b c : Bool) → nat_lt p done ≡ b → (done == p) ≡ c → out_if i done p ≡ out_if i (done + 1) p
-      by_test true c h g = rw (h, lt-ltb p (done + 1) (lt_next p done (ltb-true p done h))) refl
-      by_test false true h g =
-          let here : done ≡ p = eqb-true done p g in
-          rw (h, lt-ltb p (done + 1) (same_lt_next p done here)) (sym (ap (λ q. out i q) (sym here) ∙ none))
-      by_test false false h g =
-          rw (
-            h,
-            le-ltb p (done + 1) (apart_next_le p done (λ e. true≢false (sym (eq-eqb done p e) ∙ g))
-                (ltb-false p done h)),
-          ) refl
-
-  -- or a value
-  value_more : (i done p : ℕ) (v : ℤ) → out i done ≡ v ∷ []
-      → cond (done == p) (v ∷ out_if i done p) (out_if i done p) ≡ out_if i (done + 1) p
-  value_more i done p v is = by_test (nat_lt p done) (done == p) refl refl
+  -- one phase more is done
+  one_more : (i done p : ℕ) → cond (done == p) (out i done ++ out_if i done p) (out_if i done p) ≡ out_if i (done + 1) p
+  one_more i done p = by_test (nat_lt p done) (done == p) refl refl
     where
       by_test : (b c : Bool) → nat_lt p done ≡ b → (done == p) ≡ c
-          → cond c (v ∷ out_if i done p) (out_if i done p) ≡ out_if i (done + 1) p
+          → cond c (out i done ++ out_if i done p) (out_if i done p) ≡ out_if i (done + 1) p
       by_test true true h g = absurd (lt_not_same p done (ltb-true p done h) (eqb-true done p g))
       by_test true false h g = rw (h, lt-ltb p (done + 1) (lt_next p done (ltb-true p done h))) refl
       by_test false true h g =
           let here : done ≡ p = eqb-true done p g in
-          rw (h, lt-ltb p (done + 1) (same_lt_next p done here)) (sym (ap (λ q. out i q) (sym here) ∙ is))
+          rw (h, lt-ltb p (done + 1) (same_lt_next p done here)) (append-nil (out i done) ∙ ap (λ q. out i q) here)
       by_test false false h g =
           rw (
             h,
@@ -369,7 +353,8 @@ module _ (s : Shape) where
                   signalled
                   ∙ (ap (λ xs. cond (turns t w == p) (v ∷ xs) xs)
                   (before.values p ∙ ap (λ y. out_if x y p) count)
-                  ∙ value_more x (turns t w) p v is));
+                  ∙ (ap (λ vs. cond (turns t w == p) (vs ++ out_if x (turns t w) p) (out_if x (turns t w) p)) (sym is)
+                  ∙ one_more x (turns t w) p)));
             })
           where
             past : phaser_past x (Phaser x (Send t 0 v) ∷ w) ≡ Sent t 0 v ∷ phaser_past x w
@@ -407,10 +392,17 @@ module _ (s : Shape) where
             unsent_by j p true = refl
             unsent_by j p false = refl
 
+            same_both : (b : Bool) (xs : List ℤ) → cond b xs xs ≡ xs
+            same_both true xs = refl
+            same_both false xs = refl
+
             by_more : (p : ℕ) → (more ≡ before.done) ⊎ ((more ≡ before.done + 1) × (out x before.done ≡ []))
                 → out_if x before.done p ≡ out_if x more p
             by_more p (inl e) = ap (λ y. out_if x y p) (sym e)
-            by_more p (inr e) = nothing_more x before.done p e.1 ∙ ap (λ y. out_if x y p) (sym e.0)
+            by_more p (inr e) =
+                sym (same_both (before.done == p) (out_if x before.done p))
+                ∙ (ap (λ vs. cond (before.done == p) (vs ++ out_if x before.done p) (out_if x before.done p)) (sym e.1)
+                ∙ (one_more x before.done p ∙ ap (λ y. out_if x y p) (sym e.0)))
 
         pub stand_turns : turns t w + 1 ≤ before.done
             → At x (turns t w + 1) before.done (next Done (task_does w t).1)

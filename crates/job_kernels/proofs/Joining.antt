@@ -11,9 +11,10 @@ use Rattle.phase_modes.specs.declared.phased.Pair.{Pair}
 use Rattle.phase_modes.specs.declared.reg.Mode.{Mode}
 use Rattle.phase_modes.specs.Mode.{can_signal}
 use Rattle.phase_model.specs.Tasks.{is_registered, has_mode, mode_of, registers}
+use Rattle.finish_core.specs.declared.event.FinishEvent.{FinishEvent}
 use Rattle.finish_core.specs.declared.event.FinishEvent.TheVariants.{Spawned}
 use Rattle.world_model.specs.declared.event.Step.{Step}
-use Rattle.world_model.specs.declared.event.Step.TheVariants.{Make, Reg, Sig, Claim, Did, Pass, Send, Look, Drop}
+use Rattle.world_model.specs.declared.event.Step.TheVariants.{Make, Reg, Drop}
 use Rattle.world_model.specs.declared.event.Begun.{Begun}
 use Rattle.world_model.specs.declared.event.Begun.TheVariants.{Async, End}
 use Rattle.world_model.specs.declared.event.Tried.TheVariants.{Begun as Beginning}
@@ -73,21 +74,15 @@ weak_is_reg : (n c : ℕ) (e : WorldEvent) → is_reg_for n c e ≡ false → is
 weak_is_reg n c (Phaser m (Reg q u o)) k = rw k refl
 weak_is_reg n c e k = refl
 
-no_leave_is_weak : (n c : ℕ) (ds : List WorldEvent) → list_all is_leave ds ≡ true
-    → list_any (is_weak_for n c) ds ≡ false
-no_leave_is_weak n c [] k = refl
-no_leave_is_weak n c (Phaser m (Drop u) ∷ ds) k = no_leave_is_weak n c ds k
-no_leave_is_weak n c (Finish f s ∷ ds) k =
-    no_leave_is_weak n c ds (and_parts (is_leave (Finish f s)) (list_all is_leave ds) k).1
-no_leave_is_weak n c (d ∷ ds) k = absurd (false≢true k)
-
-pub no_leave_is_reg : (n c : ℕ) (ds : List WorldEvent) → list_all is_leave ds ≡ true
-    → list_any (is_reg_for n c) ds ≡ false
-no_leave_is_reg n c [] k = refl
-no_leave_is_reg n c (Phaser m (Drop u) ∷ ds) k = no_leave_is_reg n c ds k
-no_leave_is_reg n c (Finish f s ∷ ds) k =
-    no_leave_is_reg n c ds (and_parts (is_leave (Finish f s)) (list_all is_leave ds) k).1
-no_leave_is_reg n c (d ∷ ds) k = absurd (false≢true k)
+-- nor does who leaves
+pub no_leave_is : (p : WorldEvent → Bool) → ((m u : ℕ) → p (Phaser m (Drop u)) ≡ false)
+    → ((f : ℕ) (x : FinishEvent) → p (Finish f x) ≡ false) → (ds : List WorldEvent) → list_all is_leave ds ≡ true
+    → list_any p ds ≡ false
+no_leave_is p drops ends [] k = refl
+no_leave_is p drops ends (Phaser m (Drop u) ∷ ds) k = rw (drops m u) (no_leave_is p drops ends ds k)
+no_leave_is p drops ends (Finish f x ∷ ds) k =
+    rw (ends f x) (no_leave_is p drops ends ds (and_parts (is_leave (Finish f x)) (list_all is_leave ds) k).1)
+no_leave_is p drops ends (d ∷ ds) k = absurd (false≢true k)
 
 -- the registrations of another child
 others_regs : (n c x : ℕ) (ps : List Pair) → (x == c) ≡ false
@@ -205,7 +200,7 @@ module _ (l : Limits) (w : List WorldEvent) (k : IsPlain l w) (n c : ℕ) where
   by_entry : (b : Begun) → is_accepted l w (Begin 0 b) ≡ true → is_plain (Begin 0 b) ≡ true
       → is_named c w ≡ true → Joined n c w → Joined n c (Begin 0 b ∷ w)
   by_entry End a p d j =
-      entry_kept End a (no_leave_is_weak n c (due 0 (Begin 0 End ∷ w))
+      entry_kept End a (no_leave_is (is_weak_for n c) (λ m u. refl) (λ f x. refl) (due 0 (Begin 0 End ∷ w))
       (leaves_only l 0 (Begin 0 End ∷ w)
       (and_from (is_accepted l w (Begin 0 End)) (is_legal_world l w) a k.legal) refl)) j
   by_entry (Async x ps) a p d j =
@@ -226,13 +221,7 @@ module _ (l : Limits) (w : List WorldEvent) (k : IsPlain l w) (n c : ℕ) where
       (sym (eq-eqb c 0 (sym (eqb-true u c s) ∙ root)) ∙ z)) in
       same_by m (Make u o terms) other (rw other refl) a refl j
   by_event (Phaser m (Reg q u o)) a p z d j = by_reg m q u o a j
-  by_event (Phaser m (Sig u x)) a p z d j = same_by m (Sig u x) refl refl a refl j
-  by_event (Phaser m (Claim u)) a p z d j = same_by m (Claim u) refl refl a refl j
-  by_event (Phaser m (Did u)) a p z d j = same_by m (Did u) refl refl a refl j
-  by_event (Phaser m (Pass u)) a p z d j = same_by m (Pass u) refl refl a refl j
-  by_event (Phaser m (Send u x v)) a p z d j = same_by m (Send u x v) refl refl a refl j
-  by_event (Phaser m (Look u x)) a p z d j = same_by m (Look u x) refl refl a refl j
-  by_event (Phaser m (Drop u)) a p z d j = same_by m (Drop u) refl refl a refl j
+  by_event (Phaser m x) a p z d j = same_by m x refl refl a refl j
   by_event (Finish f s) a p z d j = plain_kept (Finish f s) a refl refl refl refl j
   by_event (Begin u b) a p z d j =
       elim (cases_Bool (u == 0)) [

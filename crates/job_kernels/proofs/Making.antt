@@ -11,13 +11,13 @@ use Rattle.phase_modes.specs.declared.reg.Mode.{Mode}
 use Rattle.phase_modes.specs.declared.reg.Mode.TheVariants.{SigWait}
 use Rattle.phase_modes.specs.Mode.{can_signal}
 use Rattle.phase_model.specs.declared.history.Event.{Event}
-use Rattle.phase_model.specs.declared.history.Event.TheVariants.{Make as Made, Reg as Registered, Sig as Signalled, Claim as Claimed, Did as Done, Pass as Passed, Send as Sent, Look as Looked, Drop as Dropped}
+use Rattle.phase_model.specs.declared.history.Event.TheVariants.{Make as Made}
 use Rattle.phase_model.specs.declared.op.Op.{Op}
 use Rattle.phase_model.specs.declared.terms.Terms.{Terms}
 use Rattle.phase_model.specs.Tasks.{is_registered, has_mode, mode_of}
 use Rattle.phase_model.specs.Rules.{is_allowed}
 use Rattle.world_model.specs.declared.event.Step.{Step}
-use Rattle.world_model.specs.declared.event.Step.TheVariants.{Make, Reg, Sig, Claim, Did, Pass, Send, Look, Drop}
+use Rattle.world_model.specs.declared.event.Step.TheVariants.{Make, Reg}
 use Rattle.world_model.specs.declared.event.Tried.{Tried}
 use Rattle.world_model.specs.declared.event.Tried.TheVariants.{New}
 use Rattle.world_model.specs.declared.event.WorldEvent.{WorldEvent}
@@ -56,14 +56,7 @@ pub some_before : (l : Limits) (terms : Terms) (h : List Event) (e : Event) → 
     → is_make e ≡ false → is_empty h ≡ false
 some_before l terms (x ∷ h) e k n = refl
 some_before l terms [] (Made t m) k n = absurd (true≢false n)
-some_before l terms [] (Registered q t m) k n = absurd (false≢true k)
-some_before l terms [] (Signalled t x) k n = absurd (false≢true k)
-some_before l terms [] (Claimed t) k n = absurd (false≢true k)
-some_before l terms [] (Done t) k n = absurd (false≢true k)
-some_before l terms [] (Passed t) k n = absurd (false≢true k)
-some_before l terms [] (Sent t a v) k n = absurd (false≢true k)
-some_before l terms [] (Looked t a x) k n = absurd (false≢true k)
-some_before l terms [] (Dropped t) k n = absurd (false≢true k)
+some_before l terms [] e k n = absurd (false≢true k)
 
 module _ (l : Limits) (op : Op) (j : ℕ) where
   -- a step by which a phaser that was made stays what it is
@@ -136,27 +129,9 @@ module _ (l : Limits) (op : Op) (j : ℕ) where
       still_made w m (Reg q u o) f.accepted refl refl
       (λ r. or_right (u == 0) (is_registered 0 (phaser_past j w)) r) (λ r. rw other refl)
       (λ s. made w f.before a s) some
-  made (Phaser m (Sig u x) ∷ w) k a some =
-      let f = last_of_plain l (Phaser m (Sig u x)) w k in
-      still_made w m (Sig u x) f.accepted refl refl (λ r. r) (λ r. refl) (λ s. made w f.before a s) some
-  made (Phaser m (Claim u) ∷ w) k a some =
-      let f = last_of_plain l (Phaser m (Claim u)) w k in
-      still_made w m (Claim u) f.accepted refl refl (λ r. r) (λ r. refl) (λ s. made w f.before a s) some
-  made (Phaser m (Did u) ∷ w) k a some =
-      let f = last_of_plain l (Phaser m (Did u)) w k in
-      still_made w m (Did u) f.accepted refl refl (λ r. r) (λ r. refl) (λ s. made w f.before a s) some
-  made (Phaser m (Pass u) ∷ w) k a some =
-      let f = last_of_plain l (Phaser m (Pass u)) w k in
-      still_made w m (Pass u) f.accepted refl refl (λ r. r) (λ r. refl) (λ s. made w f.before a s) some
-  made (Phaser m (Send u x v) ∷ w) k a some =
-      let f = last_of_plain l (Phaser m (Send u x v)) w k in
-      still_made w m (Send u x v) f.accepted refl refl (λ r. r) (λ r. refl) (λ s. made w f.before a s) some
-  made (Phaser m (Look u x) ∷ w) k a some =
-      let f = last_of_plain l (Phaser m (Look u x)) w k in
-      still_made w m (Look u x) f.accepted refl refl (λ r. r) (λ r. refl) (λ s. made w f.before a s) some
-  made (Phaser m (Drop u) ∷ w) k a some =
-      let f = last_of_plain l (Phaser m (Drop u)) w k in
-      still_made w m (Drop u) f.accepted refl refl (λ r. r) (λ r. refl) (λ s. made w f.before a s) some
+  made (Phaser m x ∷ w) k a some =
+      let f = last_of_plain l (Phaser m x) w k in
+      still_made w m x f.accepted refl refl (λ r. r) (λ r. refl) (λ s. made w f.before a s) some
   made (e ∷ w) k a some =
       let p = made w (last_of_plain l e w k).before a some in
       record { ops = p.ops; there = p.there; mode = p.mode }

@@ -34,9 +34,6 @@ right_part_le x y = omega arith
 pub next_on : (x y z : ℕ) → x + suc y ≡ z → (x + 1) + y ≡ z
 next_on x y z h = omega arith
 
-pub next_on_le : (x y z : ℕ) → x + suc y ≡ z → x + 1 ≤ z
-next_on_le x y z h = omega arith
-
 pub next_on_lt : (x y z : ℕ) → x < y + suc z → x < (y + 1) + z
 next_on_lt x y z h = omega arith
 
@@ -69,12 +66,6 @@ le_apart_next_le x y h k = grind (arith, k)
 
 pub lt_le : (x y z : ℕ) → x < y → y ≤ z → x < z
 lt_le x y z h k = omega arith
-
-pub lt_le_le : (x y z r : ℕ) → x < y → y ≤ z → z ≤ r → x < r
-lt_le_le x y z r h k i = omega arith
-
-pub lt_le_not_zero : (x y z : ℕ) → x < y → y ≤ z → z ≡ 0 → ⊥
-lt_le_not_zero x y z h k i = omega arith
 
 pub next_le_lt : (x y z : ℕ) → y ≡ x + 1 → y ≤ z → x < z
 next_le_lt x y z h k = omega arith

@@ -20,7 +20,7 @@ use Rattle.job_kernels.proofs.Numbers.{lt_le, none_below_zero, part_le}
 use Rattle.job_kernels.proofs.Plain.{IsPlain, turns, spawned, child_at, root_turns}
 use Rattle.job_kernels.proofs.Paces.{paces}
 use Rattle.job_kernels.proofs.Children.{there_is}
-use Rattle.job_kernels.proofs.Joining.{SpawnsBy, HasOwn, Joined, joined, is_reg_for, no_leave_is_reg}
+use Rattle.job_kernels.proofs.Joining.{SpawnsBy, HasOwn, Joined, joined, is_reg_for, no_leave_is}
 
 -- the child of place j is registered on phaser j, and can signal there
 pub record IsThere (j : ℕ) (w : List WorldEvent) : Type 0 where
@@ -36,7 +36,7 @@ module _ (l : Limits) (w : List WorldEvent) (k : IsPlain l w) where
       let u = there_is j w lt in
       let p : Joined j u.0 w = joined l pairs (λ i. i) w k spawns j u.0 own u.1 in
       let none : list_any (is_reg_for j u.0) (due 0 w) ≡ false =
-      no_leave_is_reg j u.0 (due 0 w)
+      no_leave_is (is_reg_for j u.0) (λ m x. refl) (λ f x. refl) (due 0 w)
       (leaves_only l 0 w k.legal (or_left (ends_act (last_entry 0 w)) (shuts_act (last_entry 0 w)) ending)) in
       let there : is_registered u.0 (phaser_past j w) ≡ true =
       elim (or_cases (is_registered u.0 (phaser_past j w)) (list_any (is_reg_for j u.0) (due 0 w)) p.there) [

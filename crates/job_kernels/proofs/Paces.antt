@@ -9,14 +9,14 @@ use Rattle.phase_modes.specs.declared.reg.Mode.{Mode}
 use Rattle.phase_modes.specs.declared.limits.Limits.{Limits}
 use Rattle.phase_modes.specs.Mode.{can_signal}
 use Rattle.phase_model.specs.declared.history.Event.{Event}
-use Rattle.phase_model.specs.declared.history.Event.TheVariants.{Make as Made, Reg as Registered, Sig as Signalled, Claim as Claimed, Did as Done, Pass as Passed, Send as Sent, Drop as Dropped}
+use Rattle.phase_model.specs.declared.history.Event.TheVariants.{Make as Made, Reg as Registered, Sig as Signalled, Pass as Passed, Drop as Dropped}
 use Rattle.phase_model.specs.declared.terms.Terms.{Terms}
 use Rattle.phase_model.specs.Tasks.{is_live, has_mode, mode_of, is_registered, is_dropped}
 use Rattle.phase_model.specs.Phases.{waits, signals}
 use Rattle.phase_model.specs.Rules.{is_permitted, has_room}
 use Rattle.phase_model.proofs.Legal.{RegFollows, reg_follows, parent_signals}
 use Rattle.world_model.specs.declared.event.Step.{Step}
-use Rattle.world_model.specs.declared.event.Step.TheVariants.{Make, Reg, Sig, Claim, Did, Pass, Send, Look, Drop}
+use Rattle.world_model.specs.declared.event.Step.TheVariants.{Make, Reg, Sig, Pass, Drop}
 use Rattle.world_model.specs.declared.event.Begun.{Begun}
 use Rattle.world_model.specs.declared.event.Begun.TheVariants.{Async, Next, End}
 use Rattle.world_model.specs.declared.event.Tried.TheVariants.{Begun as Beginning, New}
@@ -74,7 +74,7 @@ carried t g h a b c d k j same p s e q =
 
 -- ---- who isn't born has begun no turn
 
-pub unborn_before : (t : ℕ) (e : WorldEvent) (w : List WorldEvent) → is_born t (e ∷ w) ≡ false
+unborn_before : (t : ℕ) (e : WorldEvent) (w : List WorldEvent) → is_born t (e ∷ w) ≡ false
     → is_born t w ≡ false
 unborn_before t e w b =
     let a = or_parts (t == 0) (spawns t e || list_any (spawns t) w) b in
@@ -132,17 +132,8 @@ none_on : (n : ℕ) (ds : List WorldEvent) → list_any is_any_move ds ≡ false
 none_on n [] k = (refl, refl)
 none_on n (Phaser m (Sig u x) ∷ ds) k = absurd (true≢false k)
 none_on n (Phaser m (Pass u) ∷ ds) k = absurd (true≢false k)
-none_on n (Phaser m (Make u o terms) ∷ ds) k = none_on n ds k
-none_on n (Phaser m (Reg q u o) ∷ ds) k = none_on n ds k
-none_on n (Phaser m (Claim u) ∷ ds) k = none_on n ds k
-none_on n (Phaser m (Did u) ∷ ds) k = none_on n ds k
-none_on n (Phaser m (Send u a v) ∷ ds) k = none_on n ds k
-none_on n (Phaser m (Look u a) ∷ ds) k = none_on n ds k
-none_on n (Phaser m (Drop u) ∷ ds) k = none_on n ds k
-none_on n (Finish f s ∷ ds) k = none_on n ds k
-none_on n (Begin u b ∷ ds) k = none_on n ds k
-none_on n (Refuse u a x ∷ ds) k = none_on n ds k
-none_on n (Fail u x ∷ ds) k = none_on n ds k
+none_on n (Phaser m x ∷ ds) k = none_on n ds k
+none_on n (e ∷ ds) k = none_on n ds k
 
 elsewhere : (n m : ℕ) (s : Step) → (m == n) ≡ false
     → (is_pass_on n (Phaser m s) ≡ false) × (is_sig_on n (Phaser m s) ≡ false)
@@ -422,22 +413,6 @@ module _ (l : Limits) (w : List WorldEvent) (k : IsPlain l w) (all : PacedWhereR
 
   by_event : (e : WorldEvent) → is_accepted l w e ≡ true → is_plain e ≡ true
       → is_registered t (phaser_past n (e ∷ w)) ≡ true → Paced t n (e ∷ w)
-  by_event (Phaser m (Send u c x)) a p v =
-      still (Phaser m (Send u c x)) a refl refl refl refl
-      (alike_either (m == n) (Sent u c x)
-      (record { registered = refl; live = refl; mode = refl; waited = refl; signalled = refl })) v
-  by_event (Phaser m (Look u c)) a p v =
-      still (Phaser m (Look u c)) a refl refl refl refl
-      (alike_either (m == n) (event_for (terms_of n w) (phaser_past n w) (Look u c))
-      (record { registered = refl; live = refl; mode = refl; waited = refl; signalled = refl })) v
-  by_event (Phaser m (Claim u)) a p v =
-      still (Phaser m (Claim u)) a refl refl refl refl
-      (alike_either (m == n) (Claimed u)
-      (record { registered = refl; live = refl; mode = refl; waited = refl; signalled = refl })) v
-  by_event (Phaser m (Did u)) a p v =
-      still (Phaser m (Did u)) a refl refl refl refl
-      (alike_either (m == n) (Done u)
-      (record { registered = refl; live = refl; mode = refl; waited = refl; signalled = refl })) v
   by_event (Phaser m (Drop u)) a p v =
       elim (cases_Bool (u == t)) [
         | inr o ↦ still (Phaser m (Drop u)) a refl refl refl refl (alike t n (Phaser m (Drop u)) w o) v
@@ -488,6 +463,10 @@ module _ (l : Limits) (w : List WorldEvent) (k : IsPlain l w) (all : PacedWhereR
               (subst (λ b. is_registered t (cond b (Passed u ∷ phaser_past n w) (phaser_past n w)) ≡ true) o v)
         ]
       ]
+  by_event (Phaser m x) a p v =
+      still (Phaser m x) a refl refl refl refl
+      (alike_either (m == n) (event_for (terms_of n w) (phaser_past n w) x)
+      (record { registered = refl; live = refl; mode = refl; waited = refl; signalled = refl })) v
   by_event (Finish f s) a p v = still (Finish f s) a refl refl refl refl (alike_same t (phaser_past n w)) v
   by_event (Begin u b) a p v =
       elim (cases_Bool (u == t)) [

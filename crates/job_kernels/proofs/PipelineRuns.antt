@@ -23,7 +23,7 @@ Goes does lines = GoesBy pipeline_next does lines
 -- ---- the items
 
 -- item i stands i - 1 phases behind the first
-pub number_counts : (k p i : ℕ) → number_at k p ≡ Some i → i + k ≡ p + 1
+number_counts : (k p i : ℕ) → number_at k p ≡ Some i → i + k ≡ p + 1
 number_counts zero p i e =
     let same : p + 1 ≡ i = cc e in
     omega (arith, same)

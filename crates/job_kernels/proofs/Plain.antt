@@ -6,7 +6,7 @@ use Rattle.std.specs.List.{list_any, list_all}
 use Rattle.std.proofs.lemmas.Bool.{and_parts, cases_Bool, eqb-true, eq-eqb, not-true, true≢false, false≢true, false_from_ne_true}
 use Rattle.phase_modes.specs.Lists.{is_empty}
 use Rattle.phase_modes.specs.declared.limits.Limits.{Limits}
-use Rattle.world_model.specs.declared.event.Step.TheVariants.{Make, Send}
+use Rattle.world_model.specs.declared.event.Step.TheVariants.{Make}
 use Rattle.world_model.specs.declared.event.Begun.TheVariants.{Async, Next, End}
 use Rattle.world_model.specs.declared.event.Tried.TheVariants.{Begun as Beginning}
 use Rattle.world_model.specs.declared.event.WorldEvent.{WorldEvent}
@@ -48,12 +48,6 @@ abbrev pub turns : ℕ → List WorldEvent → ℕ
 turns t [] = 0
 turns t (Begin u Next ∷ w) = if u == t then turns t w + 1 else turns t w
 turns t (_ ∷ w) = turns t w
-
--- how many values t has sent
-abbrev pub sends : ℕ → List WorldEvent → ℕ
-sends t [] = 0
-sends t (Phaser n (Send u a v) ∷ w) = if u == t then sends t w + 1 else sends t w
-sends t (_ ∷ w) = sends t w
 
 -- how many spawns were begun
 abbrev pub spawned : List WorldEvent → ℕ
@@ -106,24 +100,25 @@ due_moves l w e t a n =
           ]
     ]
 
--- so it changes nothing that isn't said of it
+-- so it changes nothing that it adds nothing to
+due_kept : {X : Type 0} (l : Limits) (w : List WorldEvent) (e : WorldEvent) (t : ℕ) (f : List WorldEvent → X)
+    → is_accepted l w e ≡ true → is_entry t e ≡ false → ((ds : List WorldEvent) → f (e ∷ ds) ≡ f ds)
+    → f (due t (e ∷ w)) ≡ f (due t w)
+due_kept l w e t f a n none =
+    elim (due_moves l w e t a n) [
+      | inl s ↦ ap f s
+      | inr s ↦ sym (ap f s ∙ none (due t (e ∷ w)))
+    ]
+
 pub any_kept : (l : Limits) (w : List WorldEvent) (e : WorldEvent) (t : ℕ) (p : WorldEvent → Bool)
     → is_accepted l w e ≡ true → is_entry t e ≡ false → p e ≡ false
     → list_any p (due t (e ∷ w)) ≡ list_any p (due t w)
-any_kept l w e t p a n none =
-    elim (due_moves l w e t a n) [
-      | inl s ↦ ap (λ ds. list_any p ds) s
-      | inr s ↦ sym (ap (λ ds. list_any p ds) s ∙ rw none refl)
-    ]
+any_kept l w e t p a n none = due_kept l w e t (λ ds. list_any p ds) a n (λ ds. rw none refl)
 
 pub count_kept : (l : Limits) (w : List WorldEvent) (e : WorldEvent) (t : ℕ) (p : WorldEvent → Bool)
     → is_accepted l w e ≡ true → is_entry t e ≡ false → p e ≡ false
     → how_many p (due t (e ∷ w)) ≡ how_many p (due t w)
-count_kept l w e t p a n none =
-    elim (due_moves l w e t a n) [
-      | inl s ↦ ap (λ ds. how_many p ds) s
-      | inr s ↦ sym (ap (λ ds. how_many p ds) s ∙ rw none refl)
-    ]
+count_kept l w e t p a n none = due_kept l w e t (λ ds. how_many p ds) a n (λ ds. rw none refl)
 
 -- an event that comes next is the first of it
 pub due_next : (l : Limits) (w : List WorldEvent) (e : WorldEvent) (t : ℕ) → IsNext l w e
@@ -176,17 +171,22 @@ by_entry t (Fail u x) p n q = absurd (false≢true p)
 by_entry t (Phaser m s) p n q = absurd (false≢true n)
 by_entry t (Finish f s) p n q = absurd (false≢true n)
 
+-- what holds of each entry holds of the last
+pub by_last : (p q : Option WorldEvent → Bool) (t : ℕ) → p None ≡ false
+    → ((e : WorldEvent) → is_plain e ≡ true → is_entry t e ≡ true → p (Some e) ≡ true → q (Some e) ≡ true)
+    → (w : List WorldEvent) → list_all is_plain w ≡ true → p (last_entry t w) ≡ true → q (last_entry t w) ≡ true
+by_last p q t none each [] k h = absurd (true≢false (sym h ∙ none))
+by_last p q t none each (e ∷ w) k h =
+    let a = and_parts (is_plain e) (list_all is_plain w) k in
+    (elim (cases_Bool (is_entry t e)) as (λ x. p (last_entry t (e ∷ w)) ≡ true → q (last_entry t (e ∷ w)) ≡ true) [
+      | inl n ↦ rw n (λ r. each e a.0 n r)
+      | inr n ↦ rw n (λ r. by_last p q t none each w a.1 r)
+    ]) h
+
 -- nobody shuts a finish of its own, so who leaves phasers ends
 pub leaves_to_end : (t : ℕ) (w : List WorldEvent) → list_all is_plain w ≡ true
     → leaves_act (last_entry t w) ≡ true → ends_act (last_entry t w) ≡ true
-leaves_to_end t [] k q = absurd (false≢true q)
-leaves_to_end t (e ∷ w) k q =
-    let p = and_parts (is_plain e) (list_all is_plain w) k in
-    (elim (cases_Bool (is_entry t e)) as (λ x. leaves_act (last_entry t (e ∷ w)) ≡ true
-    → ends_act (last_entry t (e ∷ w)) ≡ true) [
-      | inl n ↦ rw n (λ r. by_entry t e p.0 n r)
-      | inr n ↦ rw n (λ r. leaves_to_end t w p.1 r)
-    ]) q
+leaves_to_end t w k q = by_last (λ o. leaves_act o) (λ o. ends_act o) t refl (by_entry t) w k q
 
 -- ---- the root spawns all
 

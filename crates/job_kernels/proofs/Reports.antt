@@ -3,6 +3,7 @@ use Rattle.std.proofs.Common.{ℕ, ℤ, zero, suc, ◌+◌, ◌≡◌, ◌≤◌
 use Rattle.std.specs.Prelude.{filter}
 use Rattle.std.specs.List.{range_with_len}
 use Rattle.std.proofs.lemmas.Bool.{cases_Bool, eqb-true, eq-eqb, ne_eqb, true≢false}
+use Rattle.std.proofs.lemmas.List.{append-nil}
 use Rattle.std.proofs.lemmas.List.FromFn.{fill_by_all}
 use Rattle.phase_model.specs.declared.history.Event.{Event}
 use Rattle.phase_model.specs.declared.history.Event.TheVariants.{Make, Reg, Sig, Claim, Did, Pass, Send, Look, Drop}
@@ -144,16 +145,12 @@ module _ {X Y : Type 0} (line : ℕ → X) (read : X → List Y) (is : ℕ → B
             ap (λ b. flat_map read (map line (cond b (a ∷ filter is (range_with_len (a + 1) m))
             (filter is (range_with_len (a + 1) m))))) (ap is same ∙ there)
             ∙ (ap (λ xs. xs ++ read_from (a + 1) m) (ap (λ j. read (line j)) same ∙ at)
-            ∙ (ap (λ xs. value ++ xs) (read_behind (a + 1) m (same_lt_next n a same)) ∙ nil_after value))
+            ∙ (ap (λ xs. value ++ xs) (read_behind (a + 1) m (same_lt_next n a same)) ∙ append-nil value))
         | inr e ↦
             by_test (is a) (nothing a e)
             (one_read (a + 1) m (le_apart_next_le n a le (λ x. true≢false (sym (eq-eqb a n x) ∙ e))) (next_on_lt n a m lt))
       ]
     where
-      nil_after : (xs : List Y) → xs ++ [] ≡ xs
-      nil_after [] = refl
-      nil_after (x ∷ xs) = ap (λ ys. x ∷ ys) (nil_after xs)
-
       by_test : (b : Bool) → read (line a) ≡ [] → read_from (a + 1) m ≡ value
           → flat_map read (map line (cond b (a ∷ filter is (range_with_len (a + 1) m))
           (filter is (range_with_len (a + 1) m)))) ≡ value

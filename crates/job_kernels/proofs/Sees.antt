@@ -50,7 +50,7 @@ module _ (s : Shape) (p : Plan s) (l : Limits) (w : List WorldEvent) (st : Stand
     pub zero_acc : a ≡ 0
     pub value : out n (turns t w) ≡ v ∷ []
 
-  pub record LookIs (j t a : ℕ) : Type 0 where
+  record LookIs (j t a : ℕ) : Type 0 where
     pub step : ℕ
     pub zero_acc : a ≡ 0
     pub inside : j < phasers

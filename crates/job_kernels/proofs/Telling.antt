@@ -1,6 +1,6 @@
 -- What each event of a history in which tasks go by a body says of its task, and what it leaves of others.
-use Rattle.std.proofs.Common.{◌≡◌, ℕ, Bool, true, false, ◌==◌, cond, List, [], ◌∷◌, Some, None, refl, sym, subst, ◌∙◌, inl, inr}
-use Rattle.std.proofs.lemmas.Bool.{cases_Bool, eqb-true, eq-eqb, true≢false}
+use Rattle.std.proofs.Common.{◌≡◌, ℕ, Bool, true, false, ◌==◌, cond, List, ◌∷◌, Some, None, refl}
+use Rattle.std.proofs.lemmas.Bool.{eq-eqb, true≢false}
 use Rattle.phase_modes.specs.declared.limits.Limits.{Limits}
 use Rattle.finish_core.specs.declared.event.FinishEvent.TheVariants.{Opened}
 use Rattle.job_script.specs.declared.act.Answer.{Answer}
@@ -12,18 +12,13 @@ use Rattle.world_model.specs.declared.event.Tried.TheVariants.{Begun as Beginnin
 use Rattle.world_model.specs.declared.event.WorldEvent.{WorldEvent}
 use Rattle.world_model.specs.declared.event.WorldEvent.TheVariants.{Phaser, Finish, Begin, Refuse, Fail}
 use Rattle.world_model.specs.Report.{refused_by}
-use Rattle.world_model.specs.Tasks.{is_born}
-use Rattle.world_model.specs.Replies.{is_legal_world}
 use Rattle.world_model.specs.TaskConditions.{last_entry}
 use Rattle.world_model.proofs.MadeMeans.{last_accepted}
-use Rattle.world_model.proofs.AbleComputed.{idle_in_act}
-use Rattle.world_model.proofs.PassesInTurns.{idle_is_born}
 use Rattle.trace_walk.specs.Scripts.{act_of, is_of, parent_by}
 use Rattle.job_kernels.specs.Tasks.{Does}
 use Rattle.trace_walk.specs.Going.{does}
 use Rattle.job_kernels.proofs.Goes.{GoesSmoothly}
-use Rattle.job_kernels.proofs.Plain.{turns, sends}
-use Rattle.job_kernels.proofs.Paces.{unborn_before}
+use Rattle.job_kernels.proofs.Plain.{turns}
 
 -- the event that is this act
 abbrev pub event_by : ℕ → Tried → WorldEvent
@@ -76,7 +71,6 @@ pub record IsSame {B : Type 0} (next : Answer → B → Does B) (root : B) (c : 
     (w : List WorldEvent) : Type 0 where
   pub does_same : does next root (e ∷ w) c ≡ does next root w c
   pub turned : turns c (e ∷ w) ≡ turns c w
-  pub sent : sends c (e ∷ w) ≡ sends c w
   pub last : last_entry c (e ∷ w) ≡ last_entry c w
 
 begun_turns : (c u : ℕ) (b : Begun) (w : List WorldEvent) → (u == c) ≡ false
@@ -87,35 +81,18 @@ begun_turns c u b w o = refl
 pub same : {B : Type 0} (next : Answer → B → Does B) (root : B) (c : ℕ) (e : WorldEvent) (w : List WorldEvent)
     → is_refusal e ≡ false → is_of c (act_of e) ≡ false → parent_by c e ≡ None → IsSame next root c e w
 same next root c (Phaser n (Make u m terms)) w r o p =
-    record { does_same = rw o refl; turned = refl; sent = refl; last = refl }
+    record { does_same = rw o refl; turned = refl; last = refl }
 same next root c (Phaser n (Send u a v)) w r o p =
-    record { does_same = rw o refl; turned = refl; sent = rw o refl; last = refl }
+    record { does_same = rw o refl; turned = refl; last = refl }
 same next root c (Phaser n (Look u a)) w r o p =
-    record { does_same = rw o refl; turned = refl; sent = refl; last = refl }
+    record { does_same = rw o refl; turned = refl; last = refl }
 same next root c (Phaser n s) w r o p =
-    record { does_same = refl; turned = refl; sent = refl; last = refl }
+    record { does_same = refl; turned = refl; last = refl }
 same next root c (Finish f (Opened u)) w r o p =
-    record { does_same = rw o refl; turned = refl; sent = refl; last = refl }
+    record { does_same = rw o refl; turned = refl; last = refl }
 same next root c (Finish f s) w r o p =
-    record { does_same = refl; turned = refl; sent = refl; last = refl }
+    record { does_same = refl; turned = refl; last = refl }
 same next root c (Begin u b) w r o p =
-    record { does_same = rw (p, o) refl; turned = begun_turns c u b w o; sent = refl; last = rw o refl }
+    record { does_same = rw (p, o) refl; turned = begun_turns c u b w o; last = rw o refl }
 same next root c (Refuse u a x) w r o p = absurd (true≢false r)
 same next root c (Fail u x) w r o p = absurd (true≢false r)
-
--- ---- who isn't born has sent nothing
-
-pub unborn_sends : (l : Limits) (t : ℕ) (w : List WorldEvent) → is_legal_world l w ≡ true
-    → is_born t w ≡ false
-    → sends t w ≡ 0
-unborn_sends l t [] k b = refl
-unborn_sends l t (Phaser n (Send u a v) ∷ w) k b =
-    let f = last_accepted l (Phaser n (Send u a v)) w k in
-    elim (cases_Bool (u == t)) [
-      | inl e ↦
-          absurd (true≢false
-          (sym (subst (λ x. is_born x w ≡ true) (eqb-true u t e)
-          (idle_is_born u w (idle_in_act l w u (Sending n a v) f.0))) ∙ b))
-      | inr e ↦ rw e (unborn_sends l t w f.1 b)
-    ]
-unborn_sends l t (e ∷ w) k b = unborn_sends l t w (last_accepted l e w k).1 (unborn_before t e w b)

@@ -289,7 +289,7 @@ module _ (g : ℕ → Mode → ℕ) where
 
 -- ---- the root signals and passes nothing
 
-pub root_still : (w : List WorldEvent) → list_all is_plain w ≡ true → moves_act (last_entry 0 w) ≡ false
+root_still : (w : List WorldEvent) → list_all is_plain w ≡ true → moves_act (last_entry 0 w) ≡ false
 root_still [] k = refl
 root_still (Begin u b ∷ w) k =
     let p = and_parts (is_plain (Begin u b)) (list_all is_plain w) k in
