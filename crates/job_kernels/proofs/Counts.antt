@@ -33,7 +33,7 @@ use Rattle.job_kernels.proofs.EndedSums.{registered_in_all, dropped_in_all, pass
 use Rattle.job_kernels.proofs.SentSums.{values_sum, sends_counted, ups_counted, downs_counted, values_in_all, values_of_phaser, nothing_sent, lines_same}
 use Rattle.job_kernels.proofs.Plans.{Shape, Plan}
 use Rattle.job_kernels.proofs.Going.{phasers_made, out_if}
-use Rattle.job_kernels.proofs.Histories.{h, plain, full, is_made, fits, values, values_of_child}
+use Rattle.job_kernels.proofs.Histories.{at_end, plain, full, is_made, fits, values, values_of_child}
 
 -- the root makes each phaser for itself
 made_weighs : (w : List WorldEvent) → weigh (by_made (λ t m. 1)) w ≡ phasers_made w
@@ -50,6 +50,7 @@ makings [] = 0
 makings (Made t m ∷ h) = 1 + makings h
 makings (_ ∷ h) = makings h
 
+-- it is a sum over the steps
 makings_sum : IsSum makings (by_made (λ t m. 1))
 makings_sum = record { none = refl; more = more }
   where
@@ -118,44 +119,51 @@ module _ (s : Shape) (p : Plan s) (l : Limits) (w : List WorldEvent)
       over n m a b c d = omega arith
 
   -- what is handed out, place by place
-  pub handed_all : (g : ℕ → Mode → ℕ) (f : ℕ → ℕ) → ((i c : ℕ) → child_at i w ≡ Some c → of_pairs g c (pairs i) ≡ f i)
+  pub handed_all : (g : ℕ → Mode → ℕ) (f : ℕ → ℕ)
+      → ((i c : ℕ) → child_at i w ≡ Some c → of_pairs g c (pairs i) ≡ f i)
       → handed g w ≡ up_to f children
   handed_all g f each =
-      handed_by g pairs f w (h s p l w whole).handed each ∙ ap (λ n. up_to f n) (full s p l w whole).1
+      handed_by g pairs f w (at_end s p l w whole).handed each ∙ ap (λ n. up_to f n) (full s p l w whole).1
 
   -- ---- the values
 
   module _ (a : ℤ → ℕ) (g : ℕ → ℕ) (each : (j c : ℕ) → j < phasers
       → sum_by (λ q. sum_by a (out_if s j (phases j) q)) (range_with_len 0 (c + phases j)) ≡ g j) where
+    -- on a phaser of the plan its child sends all
     of_phaser : (j : ℕ) → j < phasers → values_sum a (phaser_past j w) ≡ g j
     of_phaser j lt =
         let past = phaser_past j w in
-        values_of_phaser l op w (plain s p l w whole) (h s p l w whole).made a j (phases j)
+        values_of_phaser l op w (plain s p l w whole) (at_end s p l w whole).made a j (phases j)
         ∙ (sum_same (λ q. sum_by a (sent 0 q past)) (λ q. sum_by a (out_if s j (phases j) q))
-        (range_with_len 0 (phase_count past + phases j)) (λ q. ap (λ vs. sum_by a vs) (values s p l w whole j lt q))
+        (range_with_len 0 (phase_count past + phases j))
+        (λ q. ap (λ vs. sum_by a vs) (values s p l w whole j lt q))
         ∙ each j (phase_count past) lt)
 
     -- the others send nothing
     of_none : (j : ℕ) → phasers ≤ j → values_sum a (phaser_past j w) ≡ 0
     of_none j far =
-        nothing_sent l op w (plain s p l w whole) (h s p l w whole).made a j (λ q. by_child q (child_at j w) refl)
+        nothing_sent l op w (plain s p l w whole) (at_end s p l w whole).made a j
+        (λ q. by_child q (child_at j w) refl)
       where
         nothing : (b : Bool) → ◌≡◌ {A = List ℤ} (cond b [] []) []
         nothing true = refl
         nothing false = refl
 
         by_child : (q : ℕ) (o : Option ℕ) → child_at j w ≡ o → sent 0 q (phaser_past j w) ≡ []
-        by_child q None at = (h s p l w whole).unsent j q at
+        by_child q None at = (at_end s p l w whole).unsent j q at
         by_child q (Some c) at =
             let lt : j < children = subst (λ n. j < n) (full s p l w whole).1 (at_below j c w at) in
             values_of_child s p l w whole j c at q
-            ∙ (ap (λ xs. cond (nat_lt q (phases j)) xs []) (p.silent j q far lt) ∙ nothing (nat_lt q (phases j)))
+            ∙ (ap (λ xs. cond (nat_lt q (phases j)) xs []) (p.silent j q far lt)
+            ∙ nothing (nat_lt q (phases j)))
 
+    -- so all values add up
     all_values : sum_by (values_sum a) (pasts l w) ≡ sum_by g (below phasers)
     all_values = values_in_all a l w g phasers (fits s p l w whole) of_phaser of_none
 
   -- ---- the line
 
+  -- the totals of the report, by what is handed out and what is sent
   pub totals_are : (is : TotalsLine) (g : (ℤ → ℕ) → ℕ → ℕ)
       → ((a : ℤ → ℕ) (j c : ℕ) → j < phasers
       → sum_by (λ q. sum_by a (out_if s j (phases j) q)) (range_with_len 0 (c + phases j)) ≡ g a j)

@@ -1,4 +1,4 @@
--- Where the tasks of a plan stand in each history in which they go on, as long as each look saw what it was to see.
+-- Where the tasks of a plan stand in each history in which they go on, if each look saw what it was to see.
 use Rattle.std.proofs.Common.{ℕ, ℤ, ◌+◌, ◌≡◌, ◌≤◌, ◌<◌, ◌∙◌, ◌⊎◌, inl, inr, Bool, true, false, ◌==◌, not, nat_lt, cond, List, [], ◌∷◌, ◌++◌, Option, Some, None, refl, sym, ap, subst, arith}
 use Rattle.std.specs.List.{list_any, list_all}
 use Rattle.std.proofs.lemmas.Bool.{and_from, or_parts, cases_Bool, eqb-true, eq-eqb, lt-ltb, le-ltb, ltb-true, ltb-false, true≢false, false≢true, false_from_ne_true}
@@ -68,6 +68,7 @@ module _ (s : Shape) where
   abbrev pub out_if : ℕ → ℕ → ℕ → List ℤ
   out_if i done p = cond (nat_lt p done) (out i p) []
 
+  -- the child of a place
   pub record TaskStands (i c : ℕ) (w : List WorldEvent) : Type 0 where
     pub done : ℕ
     pub goes : ends_act (last_entry c w) ≡ false → At i (turns c w) done (task_does w c)
@@ -77,6 +78,7 @@ module _ (s : Shape) where
     pub most : done ≤ phases i
     pub values : (p : ℕ) → sent 0 p (phaser_past i w) ≡ out_if i done p
 
+  -- all tasks
   pub record Standing (w : List WorldEvent) : Type 0 where
     pub plain : list_all is_plain w ≡ true
     pub handed : SpawnsBy pairs w
@@ -86,9 +88,11 @@ module _ (s : Shape) where
     pub tasks : (i c : ℕ) → child_at i w ≡ Some c → TaskStands i c w
     pub unsent : (i p : ℕ) → child_at i w ≡ None → sent 0 p (phaser_past i w) ≡ []
 
+  -- what is left to a child, by the same turns
   moved_task : (i k j x : ℕ) (d e : Does Body) → k ≡ j → d ≡ e → At i j x e → At i k x d
   moved_task i k j x d e p o c = subst (λ y. At i y x d) (sym p) (subst (λ y. At i j x y) (sym o) c)
 
+  -- the root, by the same counts
   moved_root : (m n m' n' : ℕ) (d e : Does Body) → m' ≡ m → n' ≡ n → d ≡ e → RootAt s m n e → RootAt s m' n' d
   moved_root m n m' n' d e a b o r =
       subst (λ x. RootAt s x n' d) (sym a)
@@ -102,7 +106,8 @@ module _ (s : Shape) where
       record {
         done = p.done;
         goes = λ n.
-            moved_task i (turns c (e ∷ w)) (turns c w) p.done (task_does (e ∷ w) c) (task_does w c) as_was.turned
+            moved_task i (turns c (e ∷ w)) (turns c w) p.done (task_does (e ∷ w) c)
+            (task_does w c) as_was.turned
             as_was.does_same (p.goes (subst (λ o. ends_act o ≡ false) as_was.last n));
         over = λ n. p.over (subst (λ o. ends_act o ≡ true) as_was.last n);
         turned = λ n. as_was.turned ∙ p.turned (subst (λ o. ends_act o ≡ true) as_was.last n);
@@ -112,7 +117,8 @@ module _ (s : Shape) where
       }
 
   -- one phase more is done
-  one_more : (i done p : ℕ) → cond (done == p) (out i done ++ out_if i done p) (out_if i done p) ≡ out_if i (done + 1) p
+  one_more : (i done p : ℕ) → cond (done == p) (out i done ++ out_if i done p) (out_if i done p)
+      ≡ out_if i (done + 1) p
   one_more i done p = by_test (nat_lt p done) (done == p) refl refl
     where
       by_test : (b c : Bool) → nat_lt p done ≡ b → (done == p) ≡ c
@@ -121,7 +127,8 @@ module _ (s : Shape) where
       by_test true false h g = rw (h, lt-ltb p (done + 1) (lt_next p done (ltb-true p done h))) refl
       by_test false true h g =
           let here : done ≡ p = eqb-true done p g in
-          rw (h, lt-ltb p (done + 1) (same_lt_next p done here)) (append-nil (out i done) ∙ ap (λ q. out i q) here)
+          rw (h, lt-ltb p (done + 1) (same_lt_next p done here))
+          (append-nil (out i done) ∙ ap (λ q. out i q) here)
       by_test false false h g =
           rw (
             h,
@@ -130,6 +137,7 @@ module _ (s : Shape) where
           ) refl
 
   module _ (l : Limits) (w : List WorldEvent) (st : Standing w) (k : is_legal_world l w ≡ true) where
+    -- the history is a plain one
     abbrev plain_now : IsPlain l w
     plain_now = record { legal = k; plain = st.plain }
 
@@ -140,12 +148,14 @@ module _ (s : Shape) where
         → ((i : ℕ) → child_at i (e ∷ w) ≡ child_at i w) → SpawnsBy pairs (e ∷ w) → AllMade op (e ∷ w)
         → ((i p : ℕ) → sent 0 p (phaser_past i (e ∷ w)) ≡ sent 0 p (phaser_past i w)) → Standing (e ∷ w)
     quiet e r p none parent count_made count kids handed made values =
-        let as_was : (c : ℕ) → IsSame next (root 0 0) c e w = λ c. same next (root 0 0) c e w r (none c) (parent c) in
+        let as_was : (c : ℕ) → IsSame next (root 0 0) c e w =
+        λ c. same next (root 0 0) c e w r (none c) (parent c) in
         record {
           plain = and_from (is_plain e) (list_all is_plain w) p st.plain;
           handed = handed;
           made = made;
-          at = moved_root (phasers_made w) (spawned w) (phasers_made (e ∷ w)) (spawned (e ∷ w)) (task_does (e ∷ w) 0)
+          at = moved_root (phasers_made w) (spawned w) (phasers_made (e ∷ w)) (spawned (e ∷ w))
+              (task_does (e ∷ w) 0)
               (task_does w 0) count_made count (as_was 0).does_same st.at;
           over = λ n.
               let o = st.over (subst (λ o. ends_act o ≡ true) (as_was 0).last n) in
@@ -159,11 +169,14 @@ module _ (s : Shape) where
         (of : (c : ℕ) → is_of c (act_of e) ≡ (t == c)) (parent : (c : ℕ) → parent_by c e ≡ None)
         (count : spawned (e ∷ w) ≡ spawned w) (kids : (i : ℕ) → child_at i (e ∷ w) ≡ child_at i w)
         (handed : SpawnsBy pairs (e ∷ w)) (made : AllMade op (e ∷ w)) where
+      -- another task stays as it was
       other : (c : ℕ) → (t == c) ≡ false → IsSame next (root 0 0) c e w
       other c o = same next (root 0 0) c e w r (of c ∙ o) (parent c)
 
+      -- an act of the root leaves its children
       by_root : (t == 0) ≡ true → RootAt s (phasers_made (e ∷ w)) (spawned w) (task_does (e ∷ w) 0)
-          → (ends_act (last_entry 0 (e ∷ w)) ≡ true → (phasers_made (e ∷ w) ≡ phasers) × (spawned w ≡ children))
+          → (ends_act (last_entry 0 (e ∷ w)) ≡ true
+          → (phasers_made (e ∷ w) ≡ phasers) × (spawned w ≡ children))
           → ((i p : ℕ) → sent 0 p (phaser_past i (e ∷ w)) ≡ sent 0 p (phaser_past i w))
           → Standing (e ∷ w)
       by_root z at over values =
@@ -191,7 +204,8 @@ module _ (s : Shape) where
             plain = and_from (is_plain e) (list_all is_plain w) p st.plain;
             handed = handed;
             made = made;
-            at = moved_root (phasers_made w) (spawned w) (phasers_made (e ∷ w)) (spawned (e ∷ w)) (task_does (e ∷ w) 0)
+            at = moved_root (phasers_made w) (spawned w) (phasers_made (e ∷ w)) (spawned (e ∷ w))
+                (task_does (e ∷ w) 0)
                 (task_does w 0) count_made count (other 0 z).does_same st.at;
             over = λ n.
                 let o = st.over (subst (λ o. ends_act o ≡ true) (other 0 z).last n) in
@@ -222,6 +236,7 @@ module _ (s : Shape) where
 
     -- ---- the root's acts
 
+    -- a make sends nothing
     nothing_sent : (m i p : ℕ) (mode : Mode) (terms : Terms)
         → sent 0 p (phaser_past i (Phaser m (Make 0 mode terms) ∷ w)) ≡ sent 0 p (phaser_past i w)
     nothing_sent m i p mode terms = either (m == i)
@@ -232,6 +247,7 @@ module _ (s : Shape) where
         either true = refl
         either false = refl
 
+    -- it makes a phaser
     pub stand_makes : (n : ℕ)
         → ((x : Answer) → RootAt s (phasers_made w + 1) (spawned w) (next x (task_does w 0).1))
         → (ends_act (last_entry 0 w) ≡ false)
@@ -239,10 +255,13 @@ module _ (s : Shape) where
     stand_makes n at going =
         let e = Phaser n (Make 0 SigWait (unbounded (op ∷ []))) in
         by_root e 0 refl refl (λ c. refl) (λ c. refl) refl (λ i. refl) st.handed (refl, refl, st.made) refl
-        (at (heard w e)) (λ o. absurd (true≢false (sym o ∙ going))) (λ i p. nothing_sent n i p SigWait (unbounded (op ∷ [])))
+        (at (heard w e)) (λ o. absurd (true≢false (sym o ∙ going)))
+        (λ i p. nothing_sent n i p SigWait (unbounded (op ∷ [])))
 
+    -- it ends
     pub stand_ends : phasers_made w ≡ phasers → spawned w ≡ children
-        → ((x : Answer) → RootAt s (phasers_made w) (spawned w) (next x (task_does w 0).1)) → Standing (Begin 0 End ∷ w)
+        → ((x : Answer) → RootAt s (phasers_made w) (spawned w) (next x (task_does w 0).1))
+        → Standing (Begin 0 End ∷ w)
     stand_ends all full at =
         by_root (Begin 0 End) 0 refl refl (λ c. refl) (λ c. refl) refl (λ i. refl) st.handed st.made refl
         (at (heard w (Begin 0 End))) (λ n. (all, full)) (λ i p. refl)
@@ -277,6 +296,7 @@ module _ (s : Shape) where
         nothing_yet p true h = rw h (start.none p (ltb-true p start.done h))
         nothing_yet p false h = rw h refl
 
+    -- no child has the place of the next spawn
     no_child_yet : (o : Option ℕ) → child_at (spawned w) w ≡ o → o ≡ None
     no_child_yet None h = refl
     no_child_yet (Some c) h = absurd (not_below (spawned w) (at_below (spawned w) c w h))
@@ -284,6 +304,7 @@ module _ (s : Shape) where
         not_below : (n : ℕ) → n < n → ⊥
         not_below n h = omega arith
 
+    -- it spawns the child of the next place
     pub stand_spawns : (x : ℕ) → Starts s (spawned w) → is_named x w ≡ false
         → (task_does w 0).0 ≡ acts.Async (task (spawned w)) (pairs (spawned w))
         → ((y : Answer) → RootAt s (phasers_made w) (spawned w + 1) (next y (task_does w 0).1))
@@ -353,17 +374,20 @@ module _ (s : Shape) where
                   signalled
                   ∙ (ap (λ xs. cond (turns t w == p) (v ∷ xs) xs)
                   (before.values p ∙ ap (λ y. out_if x y p) count)
-                  ∙ (ap (λ vs. cond (turns t w == p) (vs ++ out_if x (turns t w) p) (out_if x (turns t w) p)) (sym is)
+                  ∙ (ap (λ vs. cond (turns t w == p) (vs ++ out_if x (turns t w) p) (out_if x (turns t w) p))
+                  (sym is)
                   ∙ one_more x (turns t w) p)));
             })
           where
             past : phaser_past x (Phaser x (Send t 0 v) ∷ w) ≡ Sent t 0 v ∷ phaser_past x w
             past = rw (eq-eqb x x refl) refl
 
-            elsewhere : (i : ℕ) → (x == i) ≡ false → phaser_past i (Phaser x (Send t 0 v) ∷ w) ≡ phaser_past i w
+            elsewhere : (i : ℕ) → (x == i) ≡ false → phaser_past i (Phaser x (Send t 0 v) ∷ w)
+                ≡ phaser_past i w
             elsewhere i o = rw o refl
 
-        pub stand_looks : (i : ℕ) (y : Answer) (more : ℕ) → heard w (Phaser i (Look t 0)) ≡ y → turns t w ≤ more
+        pub stand_looks : (i : ℕ) (y : Answer) (more : ℕ) → heard w (Phaser i (Look t 0)) ≡ y
+            → turns t w ≤ more
             → more ≤ phases x
             → (more ≡ before.done) ⊎ ((more ≡ before.done + 1) × (out x before.done ≡ []))
             → At x (turns t w) more (next y (task_does w t).1)
@@ -377,7 +401,8 @@ module _ (s : Shape) where
             (record {
               done = more;
               goes = λ n.
-                  moved_task x (turns t w) (turns t w) more (task_does (e ∷ w) t) (next y (task_does w t).1) refl now
+                  moved_task x (turns t w) (turns t w) more (task_does (e ∷ w) t)
+                  (next y (task_does w t).1) refl now
                   after;
               over = λ n. absurd (true≢false (sym n ∙ going));
               turned = λ n. absurd (true≢false (sym n ∙ going));
@@ -401,7 +426,8 @@ module _ (s : Shape) where
             by_more p (inl e) = ap (λ y. out_if x y p) (sym e)
             by_more p (inr e) =
                 sym (same_both (before.done == p) (out_if x before.done p))
-                ∙ (ap (λ vs. cond (before.done == p) (vs ++ out_if x before.done p) (out_if x before.done p)) (sym e.1)
+                ∙ (ap (λ vs. cond (before.done == p) (vs ++ out_if x before.done p) (out_if x before.done p))
+                (sym e.1)
                 ∙ (one_more x before.done p ∙ ap (λ y. out_if x y p) (sym e.0)))
 
         pub stand_turns : turns t w + 1 ≤ before.done
@@ -412,9 +438,8 @@ module _ (s : Shape) where
             let turned : turns t (e ∷ w) ≡ turns t w + 1 = rw self refl in
             let now : task_does (e ∷ w) t ≡ next Done (task_does w t).1 = rw self refl in
             let last : last_entry t (e ∷ w) ≡ Some e = rw self refl in
-            by_child e t refl (ap (λ b. not b) z) (λ c. refl) (λ c. refl) refl (λ j. refl) st.handed st.made x refl z
-            here
-            (λ j p o. refl)
+            by_child e t refl (ap (λ b. not b) z) (λ c. refl) (λ c. refl) refl (λ j. refl) st.handed st.made x
+            refl z here (λ j p o. refl)
             (record {
               done = before.done;
               goes = λ n.

@@ -31,6 +31,7 @@ use Rattle.job_kernels.proofs.Going.{phasers_made, LooksSaw, TaskStands, Standin
 use Rattle.job_kernels.proofs.Acts.{Smooth, stand}
 use Rattle.job_kernels.proofs.Sees.{look_sees, all_there}
 
+-- if each number below n is below m, n is at most m
 all_below : (n m : ℕ) → ((j : ℕ) → j < n → j < m) → n ≤ m
 all_below zero m f = omega arith
 all_below (suc n) m f = lt_next_le n m (f n (self n))
@@ -43,10 +44,12 @@ module _ (s : Shape) (p : Plan s) (l : Limits) where
 
   -- ---- each history
 
+  -- the tasks stand as the plan says, and each look saw what it was to see
   pub record Holds (w : List WorldEvent) : Type 0 where
     pub saw : LooksSaw s w
     pub stands : Standing s w
 
+  -- before the first event
   at_first : Holds []
   at_first =
       record {
@@ -55,19 +58,26 @@ module _ (s : Shape) (p : Plan s) (l : Limits) where
           plain = refl;
           handed = tt;
           made = tt;
-          at = record { heard = Started; is = refl; within = zero_least phasers; below = zero_least children };
+          at = record {
+            heard = Started;
+            is = refl;
+            within = zero_least phasers;
+            below = zero_least children;
+          };
           over = λ n. absurd (false≢true n);
           tasks = λ i c h. absurd (none-some c h);
           unsent = λ i q h. refl;
         };
       }
 
+  -- so did the last event, if it is a look
   saw_step : (e : WorldEvent) (w : List WorldEvent) → Holds w → Smooth s p l (e ∷ w)
       → is_accepted l w e ≡ true → is_legal_world l w ≡ true → LooksSaw s (e ∷ w)
   saw_step (Phaser n (Look t a)) w h g ok k = (look_sees s p l w h.stands k n t a ok g.goes.0, h.saw)
   saw_step (Phaser n x) w h g ok k = h.saw
   saw_step e w h g ok k = h.saw
 
+  -- so it is in each history
   pub holds : (w : List WorldEvent) → Smooth s p l w → Holds w
   holds [] g = at_first
   holds (e ∷ w) g =
@@ -84,28 +94,35 @@ module _ (s : Shape) (p : Plan s) (l : Limits) where
   -- ---- a whole run
 
   module _ (w : List WorldEvent) (whole : IsWhole next (root 0 0) l w) where
-    pub h : Standing s w
-    h = (holds w (smoothly next (root 0 0) l w whole.smooth)).stands
+    -- where the tasks stand at its end
+    pub at_end : Standing s w
+    at_end = (holds w (smoothly next (root 0 0) l w whole.smooth)).stands
 
+    -- it is a plain one
     pub plain : IsPlain l w
-    plain = record { legal = whole.smooth.legal; plain = h.plain }
+    plain = record { legal = whole.smooth.legal; plain = at_end.plain }
 
     -- the root made all phasers and spawned all children
     pub full : (phasers_made w ≡ phasers) × (spawned w ≡ children)
-    full = h.over (ended_ends l 0 w plain whole.ended)
+    full = at_end.over (ended_ends l 0 w plain whole.ended)
 
+    -- the child of a phaser was registered there
     there : (i : ℕ) → i < phasers → IsThere i w
-    there i lt = all_there s p l w h whole.smooth.legal (ended_ends l 0 w plain whole.ended) i lt
+    there i lt = all_there s p l w at_end whole.smooth.legal (ended_ends l 0 w plain whole.ended) i lt
 
+    -- so there is such a phaser
     some : (i : ℕ) → i < phasers → is_empty (phaser_past i w) ≡ false
     some i lt = let t = there i lt in some_registered t.task (phaser_past i w) t.registered
 
+    -- it was made
     pub is_made : (i : ℕ) → i < phasers → is_phaser i w ≡ true
     is_made i lt = ap (λ b. not b) (some i lt)
 
+    -- for its values to be combined so
     pub ops : (i : ℕ) → i < phasers → ops_of i w ≡ op ∷ []
-    ops i lt = (made l op i w plain h.made (some i lt)).ops
+    ops i lt = (made l op i w plain at_end.made (some i lt)).ops
 
+    -- the limit has room for all of them
     pub fits : phasers ≤ l.phasers
     fits = all_below phasers l.phasers (λ j lt. phaser_fits l j w whole.smooth.legal (is_made j lt))
 
@@ -114,13 +131,17 @@ module _ (s : Shape) (p : Plan s) (l : Limits) where
     ended i c at =
         all_end l w plain whole.ended c (child_no_root l i c w whole.smooth.legal at) (child_named i c w at)
 
+    -- it took all its turns
     pub turned : (i c : ℕ) → child_at i w ≡ Some c → turns c w ≡ turns_of i
-    turned i c at = (h.tasks i c at).turned (ended i c at)
+    turned i c at = (at_end.tasks i c at).turned (ended i c at)
 
-    pub values_of_child : (i c : ℕ) → child_at i w ≡ Some c → (q : ℕ) → sent 0 q (phaser_past i w) ≡ out_if s i (phases i) q
+    -- and sent all its values
+    pub values_of_child : (i c : ℕ) → child_at i w ≡ Some c → (q : ℕ) → sent 0 q (phaser_past i w)
+        ≡ out_if s i (phases i) q
     values_of_child i c at q =
-        let t : TaskStands s i c w = h.tasks i c at in
+        let t : TaskStands s i c w = at_end.tasks i c at in
         t.values q ∙ ap (λ m. out_if s i m q) (le_both_ways t.done (phases i) t.most (t.over (ended i c at)))
 
+    -- so each phaser has the values of its place
     pub values : (i : ℕ) → i < phasers → (q : ℕ) → sent 0 q (phaser_past i w) ≡ out_if s i (phases i) q
     values i lt q = let t = there i lt in values_of_child i t.task t.child q

@@ -76,7 +76,8 @@ weak_is_reg n c e k = refl
 
 -- nor does who leaves
 pub no_leave_is : (p : WorldEvent → Bool) → ((m u : ℕ) → p (Phaser m (Drop u)) ≡ false)
-    → ((f : ℕ) (x : FinishEvent) → p (Finish f x) ≡ false) → (ds : List WorldEvent) → list_all is_leave ds ≡ true
+    → ((f : ℕ) (x : FinishEvent) → p (Finish f x) ≡ false) → (ds : List WorldEvent)
+    → list_all is_leave ds ≡ true
     → list_any p ds ≡ false
 no_leave_is p drops ends [] k = refl
 no_leave_is p drops ends (Phaser m (Drop u) ∷ ds) k = rw (drops m u) (no_leave_is p drops ends ds k)

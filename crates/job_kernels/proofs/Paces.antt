@@ -324,11 +324,13 @@ module _ (l : Limits) (w : List WorldEvent) (k : IsPlain l w) (all : PacedWhereR
       let h = phaser_past n w in
       let p : Paced t n w = all t n v in
       let past : phaser_past n (d ∷ w) ≡ Dropped u ∷ h = rw o refl in
-      subst (λ g. PacedAt t g (how_many (is_pass_on n) (due t (d ∷ w))) (how_many (is_sig_on n) (due t (d ∷ w)))
+      subst (λ g. PacedAt t g (how_many (is_pass_on n) (due t (d ∷ w)))
+      (how_many (is_sig_on n) (due t (d ∷ w)))
       (turns t w)) (sym past)
       (record {
         waited = ap (λ y. waits t h + y) (count_kept l w d t (is_pass_on n) a refl refl) ∙ p.waited;
-        signalled = λ s. ap (λ y. signals t h + y) (count_kept l w d t (is_sig_on n) a refl refl) ∙ p.signalled s;
+        signalled = λ s. ap (λ y. signals t h + y) (count_kept l w d t (is_sig_on n) a refl refl)
+            ∙ p.signalled s;
       })
 
   -- who begins a turn has left nothing

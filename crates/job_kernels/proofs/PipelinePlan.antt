@@ -1,4 +1,4 @@
--- The plan of a pipeline: what its root, the source, each stage and the sink do next, and what is left to them after that.
+-- The plan of a pipeline: what its root, source, stages and sink do next, and what they have left after that.
 use Rattle.std.proofs.Common.{ℕ, ℤ, zero, suc, pos, ◌+◌, ◌≡◌, ◌≤◌, ◌<◌, ◌==◌, ◌∙◌, ◌⊎◌, inl, inr, Bool, true, false, cond, List, [], ◌∷◌, ◌++◌, flat_map, nat_le, nat_lt, refl, sym, ap, subst, add-one, arith}
 use Rattle.std.specs.List.{range_with_len}
 use Rattle.std.proofs.lemmas.Bool.{cases_Bool, eq-eqb, ne_eqb, le-leb, lt-leb, lt-ltb, ltb-true, ltb-false}
@@ -29,11 +29,13 @@ abbrev task_of : ℕ → ℕ → ℕ → PipelineBody
 task_of stages items zero = source_task items
 task_of stages items (suc j) = cond (nat_lt j stages) (stage_task items j) (sink_task items stages)
 
+-- its phasers
 abbrev pub pairs_of : ℕ → ℕ → List Pair
 pairs_of stages zero = pair_on 0 Sig ∷ []
 pairs_of stages (suc j) =
     cond (nat_lt j stages) (pair_on j Wait ∷ pair_on (j + 1) Sig ∷ []) (pair_on stages Wait ∷ [])
 
+-- what the root spawns
 spawn_is : (stages items i : ℕ) → spawn items stages i ≡ Async (task_of stages items i) (pairs_of stages i)
 spawn_is stages items zero = refl
 spawn_is stages items (suc j) = by_test (nat_lt j stages)
@@ -52,6 +54,7 @@ root_body stages items m s =
 
 -- ---- lines
 
+-- a task goes by these lines
 abbrev pub Goes : Does PipelineBody → List (Line PipelineBody) → Type 0
 Goes d lines = GoesBy pipeline_next d lines
 
@@ -67,9 +70,11 @@ sends_of stages j p = cond (nat_lt j stages) (sending (j + 1) (items_at (suc j) 
 abbrev pub lines_of : ℕ → ℕ → ℕ → List (Line PipelineBody)
 lines_of stages j p = (acts.Next, Done) ∷ (acts.Look j 0, Saw (items_at j p)) ∷ sends_of stages j p
 
+-- what a stage or the sink has left, from a phase on
 abbrev pub reader_left : ℕ → ℕ → ℕ → ℕ → List (Line PipelineBody)
 reader_left stages j k r = flat_map (lines_of stages j) (range_with_len k r)
 
+-- that of a stage
 stage_left : (stages j : ℕ) (ns : List ℕ) → nat_lt j stages ≡ true
     → flat_map (stage_lines items_at j) ns ≡ flat_map (lines_of stages j) ns
 stage_left stages j [] e = refl
@@ -77,6 +82,7 @@ stage_left stages j (n ∷ ns) e =
     rw e (ap (λ xs. (acts.Next, Done) ∷ (acts.Look j 0, Saw (items_at j n))
     ∷ sending (j + 1) (items_at (suc j) (suc n)) ++ xs) (stage_left stages j ns e))
 
+-- that of the sink
 sink_left : (stages j : ℕ) (ns : List ℕ) → nat_lt j stages ≡ false
     → flat_map (sink_lines items_at j) ns ≡ flat_map (lines_of stages j) ns
 sink_left stages j [] e = refl
@@ -111,6 +117,7 @@ pub data TaskAt (stages items i k done : ℕ) (d : Does PipelineBody) : Type 0 w
       → Goes d ((acts.Send i 0 v, Done) ∷ reader_left stages j k r) → TaskAt stages items i k done d
   ends : (j : ℕ) → i ≡ suc j → k ≡ items + j → done ≡ k + 1 → Goes d [] → TaskAt stages items i k done d
 
+-- the tasks of a pipeline, place by place
 abbrev pub pipeline_shape : ℕ → ℕ → Shape
 pipeline_shape stages items = record {
   Body = PipelineBody;
@@ -128,11 +135,16 @@ pipeline_shape stages items = record {
   At = TaskAt stages items;
 }
 
+-- the root goes by its counts
 rooted : (stages items : ℕ) → Rooted (pipeline_shape stages items)
 rooted stages items =
     record {
       makes = λ x m n lt. rw (le-leb m stages (inside m stages lt)) refl;
-      spawns = λ x m n all lt. rw (lt-leb m stages (beyond m stages all), le-leb n (stages + 1) (second n stages lt))
+      spawns = λ x m n all lt. rw (
+        lt-leb m stages (beyond m stages all),
+        le-leb n (stages + 1)
+            (second n stages lt),
+      )
           (ap (λ b. (b, root_body stages items m (n + 1))) (spawn_is stages items n));
       ends = λ x m n all full.
           rw (lt-leb m stages (beyond m stages all), lt-leb n (stages + 1) (behind n stages full)) refl;
@@ -150,6 +162,7 @@ rooted stages items =
     behind : (m n : ℕ) → n + 2 ≤ m → n + 1 < m
     behind m n h = omega arith
 
+-- so it spawns the stages
 pub root_spawns_stages : RootSpawnsStages
 root_spawns_stages items stages =
     root_goes (pipeline_shape stages items) (rooted stages items) (spawn items stages) (spawn_is stages items)
@@ -177,6 +190,7 @@ module _ (stages items : ℕ) where
     so : (next ≡ k) ⊎ ((next ≡ k + 1) × (out stages (suc j) k ≡ []))
     at : TaskAt stages items (suc j) k next d
 
+  -- a stage sends on what it saw, if it saw an item
   seen_by : (j p r : ℕ) (d : Does PipelineBody) (b : Bool) (x : Looked ℤ) → nat_lt j stages ≡ b
       → items_at (suc j) (suc p) ≡ x → (p + 1) + r ≡ items + j
       → Goes d (cond b (sending (j + 1) x) [] ++ reader_left stages j (p + 1) r) → Seen j (p + 1) d
@@ -217,15 +231,18 @@ module _ (stages items : ℕ) where
       no_phaser : out stages (suc j) (p + 1) ≡ []
       no_phaser = rw (lt-leb (suc j) stages (beyond j stages (ltb-false j stages lt))) refl
 
+  -- a value that is sent is that of its place
   out_is : (i k : ℕ) (v : ℤ) → i ≤ stages → items_at i k ≡ Value v → out stages i k ≡ v ∷ []
   out_is i k v le is = rw (le-leb i stages le) (ap (λ y. value_seen y) is)
 
+  -- by what is left
   step_of : (i k done : ℕ) (d : Does PipelineBody) → i < stages + 2 → TaskAt stages items i k done d
       → TaskStep (pipeline_shape stages items) i k done d
   step_of i k done d lt (TaskAt.source_sends r z e c goes) =
       TaskStep.to_send (pos (k + 1))
       (goes.0 ∙ ap (λ x. acts.Send x 0 (pos (k + 1))) (sym z))
-      (out_is i k (pos (k + 1)) (subst (λ x. x ≤ stages) (sym z) (zero_least stages)) (ap (λ x. items_at x k) z)) c
+      (out_is i k (pos (k + 1)) (subst (λ x. x ≤ stages) (sym z) (zero_least stages))
+      (ap (λ x. items_at x k) z)) c
       (subst (λ x. k + 1 ≤ items + x) (sym z) (room k r items e))
       (subst (λ x. TaskAt stages items x k (k + 1) (pipeline_next Done d.1)) (sym z)
       (TaskAt.source_turns r refl e refl goes.1))
@@ -290,6 +307,7 @@ module _ (stages items : ℕ) where
 
 -- ---- at its start
 
+-- no stage has an item for phase 0
 none_at_first : (stages j p : ℕ) → p < 0 + 1 → out stages (suc j) p ≡ []
 none_at_first stages j zero lt = nothing (nat_le (suc j) stages)
   where
@@ -301,6 +319,7 @@ none_at_first stages j (suc p) lt = absurd (no_more p lt)
     no_more : (p : ℕ) → suc p < 0 + 1 → ⊥
     no_more p h = omega arith
 
+-- each begins with all its lines
 task_starts : (stages items i : ℕ) → items ≤ most_items → stages ≤ 15 → i < stages + 2
     → Starts (pipeline_shape stages items) i
 task_starts stages items zero few small lt =
@@ -373,6 +392,7 @@ pub least_seen : (x : Looked ℤ) → fold Least (value_seen x) ≡ x
 least_seen (Value v) = refl
 least_seen Nothing = refl
 
+-- the plan of a pipeline that is small enough
 pub pipeline_plan : (stages items : ℕ) → items ≤ most_items → stages ≤ 15 → Plan (pipeline_shape stages items)
 pipeline_plan stages items few small =
     record {

@@ -29,7 +29,8 @@ use Rattle.job_kernels.proofs.PipelineWhole.{values_in, item, all_values, out_is
 -- ---- what is handed out: to the source, the stages and the sink
 
 -- a sum over the places
-by_places : (f : ℕ → ℕ) (stages : ℕ) → up_to f (stages + 2) ≡ f 0 + up_to (λ j. f (suc j)) stages + f (suc stages)
+by_places : (f : ℕ → ℕ) (stages : ℕ) → up_to f (stages + 2)
+    ≡ f 0 + up_to (λ j. f (suc j)) stages + f (suc stages)
 by_places f stages =
     let two : up_to f (stages + 2) ≡ up_to f (suc (suc stages)) = ap (λ n. up_to f n) (two_more stages) in
     omega (arith, two, up_to_first f (suc stages))
@@ -41,16 +42,19 @@ stage_pairs : (g : ℕ → Mode → ℕ) (stages j c : ℕ) → j < stages
     → of_pairs g c (pairs_of stages (suc j)) ≡ g c Wait + (g c Sig + 0)
 stage_pairs g stages j c lt = rw (lt-ltb j stages lt) refl
 
-sink_pairs : (g : ℕ → Mode → ℕ) (stages j c : ℕ) → stages ≤ j → of_pairs g c (pairs_of stages (suc j)) ≡ g c Wait + 0
+sink_pairs : (g : ℕ → Mode → ℕ) (stages j c : ℕ) → stages ≤ j → of_pairs g c (pairs_of stages (suc j))
+    ≡ g c Wait + 0
 sink_pairs g stages j c le = rw (le-ltb j stages le) refl
 
 -- what the source or a stage sends on its phaser
 item_values : (stages items : ℕ) (a : ℤ → ℕ) (j c : ℕ) → j < stages + 1
-    → sum_by (λ q. sum_by a (out_if (pipeline_shape stages items) j (items + j) q)) (range_with_len 0 (c + (items + j)))
+    → sum_by (λ q. sum_by a (out_if (pipeline_shape stages items) j (items + j) q))
+    (range_with_len 0 (c + (items + j)))
     ≡ sum_by (λ x. a (pos (pipeline_item j x))) (range_with_len 1 items)
 item_values stages items a j c lt =
     let ps = range_with_len 0 (c + (items + j)) in
-    sum_same (λ q. sum_by a (out_if (pipeline_shape stages items) j (items + j) q)) (λ q. sum_by a (values_in j items q)) ps
+    sum_same (λ q. sum_by a (out_if (pipeline_shape stages items) j (items + j) q))
+    (λ q. sum_by a (values_in j items q)) ps
     (λ q. ap (λ vs. sum_by a vs) (out_is stages items j lt q))
     ∙ (sym (sum_flat a (values_in j items) ps)
     ∙ (ap (λ vs. sum_by a vs) (all_values j items 0 j (c + (items + j)) (zero_plus j) (room c j))
@@ -115,7 +119,8 @@ module _ (l : Limits) (stages items : ℕ) (few_items : items ≤ most_items) (f
           by_test : (b : Bool) → nat_lt j stages ≡ b → of_pairs g c (pairs_of stages (suc j)) ≡ f (suc j)
           by_test true e = inside (ltb-true j stages e) ∙ sym (ap (λ b. cond b (stage j) sink) e)
           by_test false e =
-              at_end (both j (spawned w) (at_below (suc j) c w h) (full s p l w whole).1 (ltb-false j stages e))
+              at_end (both j (spawned w) (at_below (suc j) c w h) (full s p l w whole).1
+              (ltb-false j stages e))
               ∙ sym (ap (λ b. cond b (stage j) sink) e)
 
   ones_handed : handed (λ t m. 1) w ≡ 2 * (stages + 1)
@@ -139,7 +144,8 @@ module _ (l : Limits) (stages items : ℕ) (few_items : items ≤ most_items) (f
       twice : (x : ℕ) → x + x ≡ 2 * x
       twice x = omega arith
 
-  signals_handed : handed (signals_of l w (plain s p l w whole) whole.ended) w ≡ items + stage_turns stages items
+  signals_handed : handed (signals_of l w (plain s p l w whole) whole.ended) w
+      ≡ items + stage_turns stages items
   signals_handed =
       by_hands (signals_of l w (plain s p l w whole) whole.ended) items (λ j. items + j) 0 (λ c e. e)
       (λ j c e. ap (λ x. 0 + x) e ∙ zero_plus (items + j)) (λ c e. refl)
@@ -147,7 +153,8 @@ module _ (l : Limits) (stages items : ℕ) (few_items : items ≤ most_items) (f
 
   -- ---- values
 
-  sends_all : sum_by (λ j. sum_by (λ x. 1) (range_with_len 1 items)) (below (stages + 1)) ≡ (stages + 1) * items
+  sends_all : sum_by (λ j. sum_by (λ x. 1) (range_with_len 1 items)) (below (stages + 1))
+      ≡ (stages + 1) * items
   sends_all =
       sum_same (λ j. sum_by (λ x. 1) (range_with_len 1 items)) (λ j. items * 1) (below (stages + 1))
       (λ j. sum_const 1 1 items)
@@ -156,28 +163,34 @@ module _ (l : Limits) (stages items : ℕ) (few_items : items ≤ most_items) (f
       by_one : (x y : ℕ) → x * (y * 1) ≡ x * y
       by_one x y = omega arith
 
-  ups_all : sum_by (λ j. sum_by (λ x. up_of (pos (pipeline_item j x))) (range_with_len 1 items)) (below (stages + 1))
+  ups_all : sum_by (λ j. sum_by (λ x. up_of (pos (pipeline_item j x))) (range_with_len 1 items))
+      (below (stages + 1))
       ≡ sum_by (λ k. sum (pipeline k items)) (below (stages + 1))
   ups_all =
       sum_same (λ j. sum_by (λ x. up_of (pos (pipeline_item j x))) (range_with_len 1 items))
       (λ j. sum (pipeline j items)) (below (stages + 1))
       (λ j. sym (sum-map (pipeline_item j) (range_with_len 1 items)))
 
-  downs_all : sum_by (λ j. sum_by (λ x. down_of (pos (pipeline_item j x))) (range_with_len 1 items)) (below (stages + 1))
+  downs_all : sum_by (λ j. sum_by (λ x. down_of (pos (pipeline_item j x))) (range_with_len 1 items))
+      (below (stages + 1))
       ≡ 0
   downs_all =
-      sum_none (λ j. sum_by (λ x. down_of (pos (pipeline_item j x))) (range_with_len 1 items)) (below (stages + 1))
+      sum_none (λ j. sum_by (λ x. down_of (pos (pipeline_item j x))) (range_with_len 1 items))
+      (below (stages + 1))
       (λ j. sum_none (λ x. down_of (pos (pipeline_item j x))) (range_with_len 1 items) (λ x. refl))
 
+  -- the root is on each phaser too
   together : (y : ℕ) → y ≡ 2 * (stages + 1) → (stages + 1) + y ≡ 3 * (stages + 1)
   together y g = omega arith
 
+  -- the totals of the report
   line_is : (report_of l w).totals ≡ pipeline_totals stages items
   line_is =
       totals_are s p l w whole (pipeline_totals stages items)
       (λ a j. sum_by (λ x. a (pos (pipeline_item j x))) (range_with_len 1 items))
       (λ a j c lt. item_values stages items a j c lt)
-      (together (handed (λ t m. 1) w) ones_handed) refl signals_handed turns_handed sends_all ups_all downs_all
+      (together (handed (λ t m. 1) w) ones_handed) refl signals_handed turns_handed sends_all ups_all
+      downs_all
 
 pub runs_total_pipeline : RunsTotalPipeline
 runs_total_pipeline l stages items w few_stages few_items whole =

@@ -62,7 +62,8 @@ module _ (s items : ℕ) where
       ap (λ b. cond b (value_seen (items_at s a)) [] ++ flat_map values_in (range_with_len (a + 1) m))
       (lt-ltb a (items + s) (inside a q r e f))
       ∙ (ap (λ xs. xs ++ flat_map values_in (range_with_len (a + 1) m)) seen
-      ∙ ap (λ xs. item (q + 1) ∷ xs) (item_values (q + 1) r (a + 1) m (next a q e) (on q r f) (le_without_one r m le)))
+      ∙ ap (λ xs. item (q + 1) ∷ xs)
+      (item_values (q + 1) r (a + 1) m (next a q e) (on q r f) (le_without_one r m le)))
     where
       inside : (a q r : ℕ) → a ≡ s + q → q + suc r ≡ items → a < items + s
       inside a q r e f = omega arith
@@ -138,6 +139,7 @@ module _ (l : Limits) (stages items : ℕ) (few_items : items ≤ most_items) (f
   p : Plan s
   p = pipeline_plan stages items few_items few_stages
 
+  -- the last phaser is one of the pipeline
   last : stages < stages + 1
   last = omega arith
 
@@ -145,12 +147,14 @@ module _ (l : Limits) (stages items : ℕ) (few_items : items ≤ most_items) (f
   sent_last : (q : ℕ) → sent 0 q (phaser_past stages w) ≡ values_in stages items q
   sent_last q = values s p l w whole stages last q ∙ out_is stages items stages last q
 
+  -- the values of folds
   abbrev read : List FoldLine → List ℤ
   read fs = flat_map (λ (f : FoldLine). value_seen f.value) fs
 
   -- its folds
   folded : (ns : List ℕ)
-      → read (flat_map (λ q. folds_from q 0 (Least ∷ []) (phaser_past stages w)) ns) ≡ flat_map (values_in stages items) ns
+      → read (flat_map (λ q. folds_from q 0 (Least ∷ []) (phaser_past stages w)) ns)
+      ≡ flat_map (values_in stages items) ns
   folded [] = refl
   folded (q ∷ ns) =
       let after = read (flat_map (λ q. folds_from q 0 (Least ∷ []) (phaser_past stages w)) ns) in
@@ -188,6 +192,7 @@ module _ (l : Limits) (stages items : ℕ) (few_items : items ≤ most_items) (f
       room : (n c : ℕ) → suc n ≡ items → stages + n < c → stages + items ≤ c
       room n c e h = omega arith
 
+  -- what the report has of it
   line : values_of stages (phaser_lines w stages) ≡ map (λ i. pos (pipeline_item stages i))
       (range_with_len (0 + 1) items)
   line =
@@ -197,12 +202,15 @@ module _ (l : Limits) (stages items : ℕ) (few_items : items ≤ most_items) (f
       (ops s p l w whole stages last)
       ∙ (folded (range_with_len 0 (phase_count past)) ∙ counted items refl))
 
+  -- so the report has the items
   comes_to : items_of stages (report_of l w) ≡ map pos (pipeline stages items)
   comes_to =
       one_read (phaser_lines w) (values_of stages) (λ j. is_phaser j w) stages
-      (map (λ i. pos (pipeline_item stages i)) (range_with_len (0 + 1) items)) (is_made s p l w whole stages last) line
+      (map (λ i. pos (pipeline_item stages i)) (range_with_len (0 + 1) items))
+      (is_made s p l w whole stages last) line
       (λ j e. ap (λ b. cond b (read (phaser_lines w j).folds) []) e)
-      0 l.phasers (zero_least stages) (lt_zero_plus stages l.phasers (first_fits l.phasers (fits s p l w whole)))
+      0 l.phasers (zero_least stages)
+      (lt_zero_plus stages l.phasers (first_fits l.phasers (fits s p l w whole)))
       ∙ (ap (λ a. map (λ i. pos (pipeline_item stages i)) (range_with_len a items)) one
       ∙ sym (map_twice (λ x. pos x) (pipeline_item stages) (range_with_len 1 items)))
     where

@@ -174,11 +174,13 @@ by_entry t (Finish f s) p n q = absurd (false≢true n)
 -- what holds of each entry holds of the last
 pub by_last : (p q : Option WorldEvent → Bool) (t : ℕ) → p None ≡ false
     → ((e : WorldEvent) → is_plain e ≡ true → is_entry t e ≡ true → p (Some e) ≡ true → q (Some e) ≡ true)
-    → (w : List WorldEvent) → list_all is_plain w ≡ true → p (last_entry t w) ≡ true → q (last_entry t w) ≡ true
+    → (w : List WorldEvent) → list_all is_plain w ≡ true → p (last_entry t w) ≡ true
+    → q (last_entry t w) ≡ true
 by_last p q t none each [] k h = absurd (true≢false (sym h ∙ none))
 by_last p q t none each (e ∷ w) k h =
     let a = and_parts (is_plain e) (list_all is_plain w) k in
-    (elim (cases_Bool (is_entry t e)) as (λ x. p (last_entry t (e ∷ w)) ≡ true → q (last_entry t (e ∷ w)) ≡ true) [
+    (elim (cases_Bool (is_entry t e)) as (λ x. p (last_entry t (e ∷ w)) ≡ true
+    → q (last_entry t (e ∷ w)) ≡ true) [
       | inl n ↦ rw n (λ r. each e a.0 n r)
       | inr n ↦ rw n (λ r. by_last p q t none each w a.1 r)
     ]) h

@@ -1,5 +1,5 @@
--- What is the same of both kernels: a root that makes phasers and then spawns a child for each place, and children that
--- send, look, end their turns and end. One proof about plans serves both.
+-- What is the same of both kernels: a root that makes phasers, then spawns a child for each place, and
+-- children that send, look, end their turns and end. One proof about plans serves both.
 use Rattle.std.proofs.Common.{ℕ, ℤ, zero, suc, ◌+◌, ◌≡◌, ◌≤◌, ◌<◌, ◌∙◌, ◌⊎◌, inl, inr, nat_lt, List, [], ◌∷◌, ◌++◌, map, None, refl, sym, ap, subst, arith}
 use Rattle.std.specs.List.{range_with_len}
 use Rattle.std.proofs.lemmas.Bool.{cases_Bool, ltb-true, ltb-false}
@@ -77,12 +77,17 @@ module _ (s : Shape) where
     pub within : m ≤ phasers
     pub below : n ≤ children
 
+  -- what it does next
   pub data RootStep (m n : ℕ) (d : Does Body) : Type 0 where
-    to_make : d.0 ≡ acts.New SigWait (op ∷ []) None → ((x : Answer) → RootAt (m + 1) n (next x d.1)) → RootStep m n d
-    to_spawn : n < children → d.0 ≡ acts.Async (task n) (pairs n) → ((x : Answer) → RootAt m (n + 1) (next x d.1))
+    to_make : d.0 ≡ acts.New SigWait (op ∷ []) None → ((x : Answer) → RootAt (m + 1) n (next x d.1))
         → RootStep m n d
-    to_end : m ≡ phasers → n ≡ children → d.0 ≡ acts.End → ((x : Answer) → RootAt m n (next x d.1)) → RootStep m n d
+    to_spawn : n < children → d.0 ≡ acts.Async (task n) (pairs n)
+        → ((x : Answer) → RootAt m (n + 1) (next x d.1))
+        → RootStep m n d
+    to_end : m ≡ phasers → n ≡ children → d.0 ≡ acts.End → ((x : Answer) → RootAt m n (next x d.1))
+        → RootStep m n d
 
+  -- so it does what is next by its counts
   pub root_step : Rooted → (m n : ℕ) (d : Does Body) → RootAt m n d → RootStep m n d
   root_step r m n d at =
       elim (cases_Bool (nat_lt m phasers)) [
@@ -110,7 +115,8 @@ module _ (s : Shape) where
               | inr g ↦
                   let full : children ≤ n = ltb-false n children g in
                   let e = at.is ∙ r.ends at.heard m n all full in
-                  RootStep.to_end (le_both_ways m phasers at.within all) (le_both_ways n children at.below full)
+                  RootStep.to_end (le_both_ways m phasers at.within all)
+                  (le_both_ways n children at.below full)
                   (ap (λ y. y.0) e) (λ y. record {
                     heard = y;
                     is = ap (λ z. next y z.1) e;
@@ -124,35 +130,44 @@ module _ (s : Shape) where
       one_more x y h = omega arith
 
   -- the lines of the root: it makes each phaser, then does each spawn
-  module _ (r : Rooted) (spawn : ℕ → Act Body) (same : (i : ℕ) → spawn i ≡ acts.Async (task i) (pairs i)) where
-    abbrev makings : ℕ → ℕ → List (Line Body)
-    makings m k = map (λ j. (acts.New SigWait (op ∷ []) None, Made j)) (range_with_len m k)
+  module _ (r : Rooted) (spawn : ℕ → Act Body) (same : (i : ℕ) → spawn i ≡ acts.Async (task i) (pairs i))
+    where
+      -- the lines in which it makes so many phasers
+      abbrev makings : ℕ → ℕ → List (Line Body)
+      makings m k = map (λ j. (acts.New SigWait (op ∷ []) None, Made j)) (range_with_len m k)
 
-    abbrev spawnings : ℕ → ℕ → List (Line Body)
-    spawnings n k = map (λ i. (spawn i, Spawned (i + 1))) (range_with_len n k)
+      -- the lines in which it spawns so many children
+      abbrev spawnings : ℕ → ℕ → List (Line Body)
+      spawnings n k = map (λ i. (spawn i, Spawned (i + 1))) (range_with_len n k)
 
-    spawns_go : (k n : ℕ) (x : Answer) → n + k ≡ children → GoesBy next (next x (root phasers n)) (spawnings n k)
-    spawns_go zero n x e = ap (λ d. d.0) (r.ends x phasers n (omega arith) (omega (arith, e)))
-    spawns_go (suc k) n x e =
-        let P : Does Body → Type 0 = λ d. GoesBy next d (spawnings n (suc k)) in
-        subst P (sym (r.spawns x phasers n (omega arith) (omega (arith, e))))
-        (sym (same n), spawns_go k (n + 1) (Spawned (n + 1)) (omega (arith, e)))
+      -- it spawns the children that are left, and ends
+      spawns_go : (k n : ℕ) (x : Answer) → n + k ≡ children
+          → GoesBy next (next x (root phasers n)) (spawnings n k)
+      spawns_go zero n x e = ap (λ d. d.0) (r.ends x phasers n (omega arith) (omega (arith, e)))
+      spawns_go (suc k) n x e =
+          let P : Does Body → Type 0 = λ d. GoesBy next d (spawnings n (suc k)) in
+          subst P (sym (r.spawns x phasers n (omega arith) (omega (arith, e))))
+          (sym (same n), spawns_go k (n + 1) (Spawned (n + 1)) (omega (arith, e)))
 
-    makes_go : (k m : ℕ) (x : Answer) → m + k ≡ phasers
-        → GoesBy next (next x (root m 0)) (makings m k ++ spawnings 0 children)
-    makes_go zero m x e =
-        let P : ℕ → Type 0 = λ u. GoesBy next (next x (root u 0)) (spawnings 0 children) in
-        let all : phasers ≡ m = omega (arith, e) in
-        subst P all (spawns_go children 0 x (omega arith))
-    makes_go (suc k) m x e =
-        let P : Does Body → Type 0 = λ d. GoesBy next d (makings m (suc k) ++ spawnings 0 children) in
-        subst P (sym (r.makes x m 0 (omega (arith, e)))) (refl, makes_go k (m + 1) (Made m) (omega (arith, e)))
+      -- it makes the phasers that are left, then spawns
+      makes_go : (k m : ℕ) (x : Answer) → m + k ≡ phasers
+          → GoesBy next (next x (root m 0)) (makings m k ++ spawnings 0 children)
+      makes_go zero m x e =
+          let P : ℕ → Type 0 = λ u. GoesBy next (next x (root u 0)) (spawnings 0 children) in
+          let all : phasers ≡ m = omega (arith, e) in
+          subst P all (spawns_go children 0 x (omega arith))
+      makes_go (suc k) m x e =
+          let P : Does Body → Type 0 = λ d. GoesBy next d (makings m (suc k) ++ spawnings 0 children) in
+          subst P (sym (r.makes x m 0 (omega (arith, e))))
+          (refl, makes_go k (m + 1) (Made m) (omega (arith, e)))
 
-    pub root_goes : GoesBy next (next Started (root 0 0)) (makings 0 phasers ++ spawnings 0 children)
-    root_goes = makes_go phasers 0 Started (omega arith)
+      -- so it does from its start
+      pub root_goes : GoesBy next (next Started (root 0 0)) (makings 0 phasers ++ spawnings 0 children)
+      root_goes = makes_go phasers 0 Started (omega arith)
 
   -- ---- what a kernel has to show
 
+  -- the laws of a plan
   pub record Plan : Type 0 where
     pub rooted : Rooted
     pub starts : (i : ℕ) → i < children → Starts i

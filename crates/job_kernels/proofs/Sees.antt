@@ -1,4 +1,4 @@
--- What the tasks of a plan send and see: the values of their places, and each look those of the phase that has ended.
+-- What the tasks of a plan send and see: each look sees the values of the phase that has ended.
 use Rattle.std.proofs.Common.{None, ℕ, ℤ, ◌+◌, ◌-◌, ◌≡◌, ◌≤◌, ◌<◌, ◌∙◌, Bool, true, false, ◌==◌, cond, List, [], ◌∷◌, ◌++◌, Some, refl, sym, ap, subst, inl, inr}
 use Rattle.std.proofs.lemmas.Bool.{and_from, cases_Bool, eqb-true, eq-eqb, lt-ltb, true≢false}
 use Rattle.phase_modes.specs.Lists.{is_empty}
@@ -45,11 +45,13 @@ module _ (s : Shape) (p : Plan s) (l : Limits) (w : List WorldEvent) (st : Stand
 
   -- ---- what a send is, and a look
 
+  -- a send is of the value of its place
   pub record SendIs (n t a : ℕ) (v : ℤ) : Type 0 where
     pub place : child_at n w ≡ Some t
     pub zero_acc : a ≡ 0
     pub value : out n (turns t w) ≡ v ∷ []
 
+  -- a look is at a phaser of the plan, in a phase for which something may be sent
   record LookIs (j t a : ℕ) : Type 0 where
     pub step : ℕ
     pub zero_acc : a ≡ 0
@@ -66,16 +68,20 @@ module _ (s : Shape) (p : Plan s) (l : Limits) (w : List WorldEvent) (st : Stand
       ap (λ b. is_value b) (is_by s p l w st k 0 a (acts.Async (task (spawned w)) (pairs (spawned w))) is e)
   no_value a is (RootStep.to_end all full e at) = ap (λ b. is_value b) (is_by s p l w st k 0 a acts.End is e)
 
+  -- so it is no act of the root
   no_root : (t : ℕ) (a : Tried) → IsActOf s p l w t a → is_value a ≡ true → (t == 0) ≡ true → ⊥
   no_root t a is value z =
       true≢false (sym value
       ∙ no_value a (subst (λ v. IsActOf s p l w v a) (eqb-true t 0 z) is) (root_does s p l w st k))
 
   module _ (n t a : ℕ) (v : ℤ) (is : IsActOf s p l w t (Sending n a v)) where
+    -- two sends that are the same
     send_fields : (i b : ℕ) (x : ℤ) → Sending n a v ≡ Sending i b x → (i ≡ n) × (a ≡ b) × (x ≡ v)
     send_fields i b x h = (cc, cc, cc)
 
-    by_send : (i done : ℕ) → child_at i w ≡ Some t → TaskStep s i (turns t w) done (task_does s w t) → SendIs n t a v
+    -- by what the child does
+    by_send : (i done : ℕ) → child_at i w ≡ Some t → TaskStep s i (turns t w) done (task_does s w t)
+        → SendIs n t a v
     by_send i done h (TaskStep.to_send x e value count room after) =
         let same = send_fields i 0 x (is_by s p l w st k t (Sending n a v) (acts.Send i 0 x) is e) in
         record {
@@ -90,6 +96,7 @@ module _ (s : Shape) (p : Plan s) (l : Limits) (w : List WorldEvent) (st : Stand
     by_send i done h (TaskStep.to_end e over all) =
         absurd (cc (is_by s p l w st k t (Sending n a v) acts.End is e))
 
+    -- each send is so
     pub send_is : is_accepted l w (Phaser n (Send t a v)) ≡ true → SendIs n t a v
     send_is ok =
         elim (cases_Bool (t == 0)) [
@@ -100,9 +107,11 @@ module _ (s : Shape) (p : Plan s) (l : Limits) (w : List WorldEvent) (st : Stand
         ]
 
   module _ (j t a : ℕ) (is : IsActOf s p l w t (Looking j a)) where
+    -- two looks that are the same
     look_fields : (i b : ℕ) → Looking j a ≡ Looking i b → (i ≡ j) × (a ≡ b)
     look_fields i b h = (cc, cc)
 
+    -- by what the child does
     by_look : (i done : ℕ) → TaskStep s i (turns t w) done (task_does s w t) → LookIs j t a
     by_look i done (TaskStep.to_look x q more e inside turned few least most so after) =
         let same = look_fields x 0 (is_by s p l w st k t (Looking j a) (acts.Look x 0) is e) in
@@ -120,6 +129,7 @@ module _ (s : Shape) (p : Plan s) (l : Limits) (w : List WorldEvent) (st : Stand
     by_look i done (TaskStep.to_end e over all) =
         absurd (cc (is_by s p l w st k t (Looking j a) acts.End is e))
 
+    -- each look is so
     look_is : is_accepted l w (Phaser j (Look t a)) ≡ true → LookIs j t a
     look_is ok =
         elim (cases_Bool (t == 0)) [
@@ -131,6 +141,7 @@ module _ (s : Shape) (p : Plan s) (l : Limits) (w : List WorldEvent) (st : Stand
 
   -- ---- what a closed phase has
 
+  -- the history is a plain one
   plain_now : IsPlain l w
   plain_now = record { legal = k; plain = st.plain }
 
@@ -148,7 +159,8 @@ module _ (s : Shape) (p : Plan s) (l : Limits) (w : List WorldEvent) (st : Stand
       elim (cases_Bool (is_dropped u.task (phaser_past j w))) [
         | inl d ↦ lt_le q (phases j) c.done lt (c.over (dropped_ends l u.task j w plain_now d))
         | inr d ↦
-            lt_le q (turns u.task w) c.done (turned_past l w plain_now u.task j q u.registered u.mode d closed) c.ahead
+            lt_le q (turns u.task w) c.done
+            (turned_past l w plain_now u.task j q u.registered u.mode d closed) c.ahead
       ]
 
   -- if a phase of a made phaser is closed, what was sent for it is what is sent there
@@ -174,7 +186,8 @@ module _ (s : Shape) (p : Plan s) (l : Limits) (w : List WorldEvent) (st : Stand
       let asked : LookAsked j t w = look_asked l w j t a ok in
       let same : turns t w ≡ q + 1 = sym (waits_in_look l w plain_now j t a ok) ∙ waited in
       let few : q < phases j = next_le_lt q (turns t w) (phases j) same i.few in
-      let past : phaser_past j (Phaser j (Look t a) ∷ w) ≡ [] ++ Looked t a x ∷ h = rw (eq-eqb j j refl) refl in
+      let past : phaser_past j (Phaser j (Look t a) ∷ w) ≡ [] ++ Looked t a x ∷ h =
+      rw (eq-eqb j j refl) refl in
       let closed : IsClosed (waits t h - 1) h =
       ((phasers_folded l (Phaser j (Look t a) ∷ w)
       (and_from (is_accepted l w (Phaser j (Look t a))) (is_legal_world l w) ok k) j).seen [] h t a x

@@ -1,5 +1,4 @@
--- The laws of each history of a stencil: what is sent are its cells, each look sees its cell, and a whole run comes to
--- the cells after its last step.
+-- The laws of a stencil's histories: its cells are sent and seen, and a whole run comes to its last row.
 use Rattle.std.proofs.Common.{ℕ, ℤ, pos, ◌+◌, ◌≡◌, ◌<◌, ◌∙◌, cond, List, [], ◌∷◌, ◌++◌, length, map, flat_map, sym, ap, subst, arith}
 use Rattle.std.specs.List.{range_with_len}
 use Rattle.std.proofs.Math.IntN.{+ℤ_idl}
@@ -52,29 +51,34 @@ module _ (l : Limits) (first : List ℕ) (steps : ℕ) (small : AtMost greatest 
       (subst (λ x. GoesSmoothly stencil_next (root_task first steps) l x) is
       (smoothly stencil_next (root_task first steps) l whole k))
 
+  -- what is sent is the cell
   values_are : (before : List WorldEvent) (n t a : ℕ) (v : ℤ) → Smooth s p l (Phaser n (Send t a v) ∷ before)
       → (n < length first) × (a ≡ 0) × (v ≡ cells_at first (signals t (phaser_past n before)) n)
   values_are before n t a v now =
       let x = last_accepted l (Phaser n (Send t a v)) before now.legal in
       let st : Standing s before =
-      (holds s p l before (smooth_before stencil_next (root_task first steps) l (Phaser n (Send t a v)) before now)).stands in
+      (holds s p l before (smooth_before stencil_next (root_task first steps) l
+      (Phaser n (Send t a v)) before now)).stands in
       let i : SendIs s p l before st x.1 n t a v = send_is s p l before st x.1 n t a v now.goes.0 x.0 in
       let signalled : signals t (phaser_past n before) ≡ turns t before =
       signals_in_send l before (record { legal = x.1; plain = st.plain }) n t a v x.0 in (
         place_below s p l before st x.1 n t i.place,
         i.zero_acc,
-        sym (same_value (cells_at first (turns t before) n) i.value) ∙ ap (λ y. cells_at first y n) (sym signalled),
+        sym (same_value (cells_at first (turns t before) n) i.value)
+            ∙ ap (λ y. cells_at first y n) (sym signalled),
       )
     where
       same_value : (u : ℤ) → u ∷ [] ≡ v ∷ [] → u ≡ v
       same_value u e = cc
 
+  -- each look saw its cell
   saw : (w : List WorldEvent) → Smooth s p l w → LooksSaw s w
   saw w now = (holds s p l w now).saw
 
   -- ---- a whole run
 
   module _ (w : List WorldEvent) (whole : IsWhole stencil_next (root_task first steps) l w) where
+    -- what was sent for the phase after the last step
     value : (j : ℕ) → j < length first → sent 0 steps (phaser_past j w) ≡ cells_at first steps j ∷ []
     value j lt =
         values s p l w whole j lt steps
@@ -83,15 +87,18 @@ module _ (l : Limits) (first : List ℕ) (steps : ℕ) (small : AtMost greatest 
         self : (n : ℕ) → n < n + 1
         self n = omega arith
 
+    -- what the report has of it
     line : (j : ℕ) → j < length first → cell_of steps (phaser_lines w j) ≡ cells_at first steps j ∷ []
     line j lt =
         let past = phaser_past j w in
         ap (λ os. flat_map (value_in steps)
-        (flat_map (λ q. folds_from q 0 os past) (range_with_len 0 (phase_count past)))) (ops s p l w whole j lt)
+        (flat_map (λ q. folds_from q 0 os past) (range_with_len 0 (phase_count past))))
+        (ops s p l w whole j lt)
         ∙ (sum_in past steps 0 (phase_count past) (zero_least steps)
         (lt_zero_plus steps (phase_count past) (sent_counts steps (cells_at first steps j) past (value j lt)))
         ∙ (ap (λ xs. sum_of xs ∷ []) (value j lt) ∙ ap (λ y. y ∷ []) (+ℤ_idl (cells_at first steps j))))
 
+    -- so the report has the last row
     comes_to : cells_of steps (report_of l w) ≡ map pos (stencil steps first)
     comes_to =
         all_read (phaser_lines w) (cell_of steps) (λ j. is_phaser j w) (cells_at first steps) (length first)

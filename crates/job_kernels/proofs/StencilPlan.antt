@@ -1,4 +1,4 @@
--- The plan of a stencil: what its root and the task of each cell do next, and what is left to them after that.
+-- The plan of a stencil: what its root and its cells' tasks do next, and what they have left after that.
 use Rattle.std.proofs.Common.{ℕ, zero, suc, ◌+◌, ◌-◌, ◌≡◌, ◌≤◌, ◌<◌, ◌==◌, ◌&&◌, ◌∙◌, inl, inr, Bool, true, false, cond, List, [], ◌∷◌, ◌++◌, length, map, flat_map, replicate, min, nat_lt, refl, sym, ap, subst, add-one, arith}
 use Rattle.std.specs.List.{range_with_len, list_any}
 use Rattle.std.proofs.Math.IntN.{+ℤ_idl}
@@ -65,6 +65,7 @@ pub record CellAt (first : List ℕ) (steps i k made : ℕ) (d : Does StencilBod
   pub among : (j : ℕ) → has j looks ≡ true → has j (neighbours (length first) i) ≡ true
   pub none : k ≡ 0 → looks ≡ []
 
+-- the tasks of a stencil, place by place
 abbrev pub stencil_shape : List ℕ → ℕ → Shape
 stencil_shape first steps = record {
   Body = StencilBody;
@@ -82,6 +83,7 @@ stencil_shape first steps = record {
   At = CellAt first steps;
 }
 
+-- the root goes by its counts
 rooted : (first : List ℕ) (steps : ℕ) → Rooted (stencil_shape first steps)
 rooted first steps =
     record {
@@ -92,17 +94,20 @@ rooted first steps =
       ends = λ x m n all full. rw (le-ltb m (length first) all, le-ltb n (length first) full) refl;
     }
 
+-- so it spawns the cells
 pub root_spawns_cells : RootSpawnsCells
 root_spawns_cells first steps h = root_goes (stencil_shape first steps) (rooted first steps)
     (λ i. acts.Async (cell_task first (length first) steps i) (phasers_of (length first) i)) (λ i. refl)
 
 -- ---- the phasers of a cell's task
 
+-- on the phaser of its left neighbour it only waits
 no_left : (i : ℕ) (c : ℕ) → list_any (is_weak_for i c) (regs_of 0 c
     (map (λ j. pair_on j Wait) (left_of i))) ≡ false
 no_left zero c = refl
 no_left (suc i) c = rw (ne_eqb i (suc i) (λ e. not_its_next i e)) refl
 
+-- and on that of its right one
 no_right : (n i c : ℕ) → list_any (is_weak_for i c) (regs_of 0 c
     (map (λ j. pair_on j Wait) (right_of n i))) ≡ false
 no_right n i c = by_test (nat_lt (i + 1) n)
@@ -116,6 +121,7 @@ no_right n i c = by_test (nat_lt (i + 1) n)
     by_test true = rw (ne_eqb (i + 1) i (λ e. no_more i e)) refl
     by_test false = refl
 
+-- so on both
 none_of_both : (i c : ℕ) (xs ys : List ℕ)
     → list_any (is_weak_for i c) (regs_of 0 c (map (λ j. pair_on j Wait) xs)) ≡ false
     → list_any (is_weak_for i c) (regs_of 0 c (map (λ j. pair_on j Wait) ys)) ≡ false
@@ -167,6 +173,7 @@ neighbours_below n i j lt h = by_left i lt h
 -- ---- what a cell's task does next
 
 module _ (first : List ℕ) (steps i k done : ℕ) (d : Does StencilBody) (lt : i < length first) where
+  -- a look comes after a turn
   not_first : (j : ℕ) (js : List ℕ) → (k ≡ 0 → j ∷ js ≡ []) → k ≡ (k - 1) + 1
   not_first j js none = one_more k (λ z. some_none (none z))
     where
@@ -177,6 +184,7 @@ module _ (first : List ℕ) (steps i k done : ℕ) (d : Does StencilBody) (lt : 
       one_more zero n = absurd (n refl)
       one_more (suc x) n = omega arith
 
+  -- by what is left
   step_of : (b : Bool) (r : ℕ) (js : List ℕ) → k + r ≡ steps → done ≡ cond b (k + 1) k
       → GoesBy stencil_next d (left first i b k r js)
       → ((j : ℕ) → has j js ≡ true → has j (neighbours (length first) i) ≡ true)
@@ -198,8 +206,10 @@ module _ (first : List ℕ) (steps i k done : ℕ) (d : Does StencilBody) (lt : 
   step_of false r (j ∷ js) sum count goes among none =
       let turned : k ≡ (k - 1) + 1 = not_first j js none in
       TaskStep.to_look j (k - 1) done goes.0
-      (neighbours_below (length first) i j lt (among j (or_left (j == j) (has j js) (eq-eqb j j refl)))) turned
-      (within k r steps k sum refl) (at_least k done count) (within k r steps done sum count) (inl refl) (record {
+      (neighbours_below (length first) i j lt (among j (or_left (j == j) (has j js) (eq-eqb j j refl))))
+      turned
+      (within k r steps k sum refl) (at_least k done count) (within k r steps done sum count) (inl refl)
+      (record {
         rest = r;
         looks = js;
         is_sent = false;
@@ -243,6 +253,7 @@ module _ (first : List ℕ) (steps i k done : ℕ) (d : Does StencilBody) (lt : 
       back : (x : ℕ) → x ≡ (x + 1) - 1
       back x = omega arith
 
+  -- so by where it stands
   cell_step : CellAt first steps i k done d → TaskStep (stencil_shape first steps) i k done d
   cell_step c = step_of c.is_sent c.rest c.looks c.sum c.count c.goes c.among c.none
 
@@ -266,6 +277,7 @@ cell_starts first steps h i lt =
       none = λ p below. absurd (none_below_zero p below);
     }
 
+-- the plan of a stencil whose cells are small enough
 pub stencil_plan : (first : List ℕ) (steps : ℕ) → AtMost greatest first → Plan (stencil_shape first steps)
 stencil_plan first steps small =
     record {

@@ -80,7 +80,11 @@ pub next_value : (first : List ℕ) (t i left : ℕ) → i < length first → le
     ≡ get_or (stencil (suc t) first) i 0
 next_value first t i left lt is =
     let values : List ℕ = stencil t first in
-    rw (is, right_value (nat_lt (i + 1) (length first)) values (length first) (i + 1) (length-stencil t first) refl)
+    rw (
+      is,
+      right_value (nat_lt (i + 1) (length first)) values (length first) (i + 1)
+          (length-stencil t first) refl,
+    )
     (sym (step_at values (length first) i (length-stencil t first) lt))
 
 -- from the end of a turn on

@@ -80,12 +80,15 @@ row_sum xs n e =
 
 -- what the task of a cell sends on its phaser
 cell_values : (first : List ℕ) (steps : ℕ) (a : ℤ → ℕ) (j c : ℕ)
-    → sum_by (λ q. sum_by a (out_if (stencil_shape first steps) j (steps + 1) q)) (range_with_len 0 (c + (steps + 1)))
+    → sum_by (λ q. sum_by a (out_if (stencil_shape first steps) j (steps + 1) q))
+    (range_with_len 0 (c + (steps + 1)))
     ≡ sum_by (λ q. a (cells_at first q j)) (below (steps + 1))
 cell_values first steps a j c =
-    sum_below (λ q. sum_by a (out_if (stencil_shape first steps) j (steps + 1) q)) (λ q. a (cells_at first q j)) (steps + 1)
+    sum_below (λ q. sum_by a (out_if (stencil_shape first steps) j (steps + 1) q))
+    (λ q. a (cells_at first q j)) (steps + 1)
     0 (steps + 1) (c + (steps + 1)) (zero_plus (steps + 1)) (right_part_le c (steps + 1))
-    (λ q h. ap (λ b. sum_by a (cond b (cells_at first q j ∷ []) [])) (lt-ltb q (steps + 1) h) ∙ single (cells_at first q j))
+    (λ q h. ap (λ b. sum_by a (cond b (cells_at first q j ∷ []) [])) (lt-ltb q (steps + 1) h)
+    ∙ single (cells_at first q j))
     (λ q h. ap (λ b. sum_by a (cond b (cells_at first q j ∷ []) [])) (le-ltb q (steps + 1) h))
   where
     single : (x : ℤ) → sum_by a (x ∷ []) ≡ a x
@@ -116,7 +119,8 @@ module _ (l : Limits) (first : List ℕ) (steps : ℕ) (small : AtMost greatest 
       (λ i c h. of_cell (λ t m. turns t w) (length first) i c
       ∙ (ap (λ x. x + length (neighbours (length first) i) * x) (turned s p l w whole i c h)
       ∙ together steps (length (neighbours (length first) i))))
-      ∙ (up_to_times steps (degree (length first)) (length first) ∙ ap (λ x. steps * x) (all_places (length first)))
+      ∙ (up_to_times steps (degree (length first)) (length first)
+      ∙ ap (λ x. steps * x) (all_places (length first)))
     where
       together : (k x : ℕ) → k + x * k ≡ k * (1 + x)
       together k x = omega arith
@@ -128,7 +132,8 @@ module _ (l : Limits) (first : List ℕ) (steps : ℕ) (small : AtMost greatest 
       (λ i c h. of_cell signalled (length first) i c
       ∙ (ap (λ x. x + length (neighbours (length first) i) * 0) (turned s p l w whole i c h)
       ∙ nothing_else steps (length (neighbours (length first) i))))
-      ∙ (up_to_is_sum (λ i. steps) (length first) ∙ (sum_const steps 0 (length first) ∙ turned_round (length first) steps))
+      ∙ (up_to_is_sum (λ i. steps) (length first)
+      ∙ (sum_const steps 0 (length first) ∙ turned_round (length first) steps))
     where
       nothing_else : (k x : ℕ) → k + x * 0 ≡ k
       nothing_else k x = omega arith
@@ -138,7 +143,8 @@ module _ (l : Limits) (first : List ℕ) (steps : ℕ) (small : AtMost greatest 
 
   -- ---- values
 
-  sends_all : sum_by (λ j. sum_by (λ q. 1) (below (steps + 1))) (below (length first)) ≡ (steps + 1) * length first
+  sends_all : sum_by (λ j. sum_by (λ q. 1) (below (steps + 1))) (below (length first))
+      ≡ (steps + 1) * length first
   sends_all =
       sum_same (λ j. sum_by (λ q. 1) (below (steps + 1))) (λ j. (steps + 1) * 1) (below (length first))
       (λ j. sum_const 1 0 (steps + 1))
@@ -151,22 +157,28 @@ module _ (l : Limits) (first : List ℕ) (steps : ℕ) (small : AtMost greatest 
       ≡ sum_by (λ t. sum (stencil t first)) (below (steps + 1))
   ups_all =
       sum_swapped (λ j q. up_of (cells_at first q j)) (below (length first)) (below (steps + 1))
-      ∙ sum_same (λ q. sum_by (λ j. up_of (cells_at first q j)) (below (length first))) (λ q. sum (stencil q first))
+      ∙ sum_same (λ q. sum_by (λ j. up_of (cells_at first q j)) (below (length first)))
+      (λ q. sum (stencil q first))
       (below (steps + 1)) (λ q. row_sum (stencil q first) (length first) (length-stencil q first))
 
-  downs_all : sum_by (λ j. sum_by (λ q. down_of (cells_at first q j)) (below (steps + 1))) (below (length first)) ≡ 0
+  downs_all : sum_by (λ j. sum_by (λ q. down_of (cells_at first q j)) (below (steps + 1)))
+      (below (length first)) ≡ 0
   downs_all =
       sum_none (λ j. sum_by (λ q. down_of (cells_at first q j)) (below (steps + 1))) (below (length first))
       (λ j. sum_none (λ q. down_of (cells_at first q j)) (below (steps + 1)) (λ q. refl))
 
+  -- the root is on each phaser too
   round : (x y a : ℕ) → y ≡ a → x + y ≡ a + x
   round x y a h = omega arith
 
+  -- the totals of the report
   line_is : (report_of l w).totals ≡ stencil_totals first steps
   line_is =
       totals_are s p l w whole (stencil_totals first steps)
-      (λ a j. sum_by (λ q. a (cells_at first q j)) (below (steps + 1))) (λ a j c lt. cell_values first steps a j c)
-      (round (length first) (handed (λ t m. 1) w) (places (length first)) places_handed) refl signals_handed turns_handed
+      (λ a j. sum_by (λ q. a (cells_at first q j)) (below (steps + 1)))
+      (λ a j c lt. cell_values first steps a j c)
+      (round (length first) (handed (λ t m. 1) w) (places (length first)) places_handed) refl signals_handed
+      turns_handed
       sends_all ups_all downs_all
 
 pub runs_total_stencil : RunsTotalStencil
