@@ -186,7 +186,7 @@ def is_text(word):
 def job_of(words):
     """The place of FILE and the values of the options, where the words name a job."""
     if not all(map(is_text, words)):
-        raise NoJob("error: the words are not text\n")
+        raise NoJob("error: an argument isn't valid UTF-8\n")
     command, place, values = read_words(words)
     look_for_all(command, place, values)
     look_at_values(command, values)

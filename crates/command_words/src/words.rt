@@ -116,25 +116,27 @@ Exit status: 0 done, 1 refused or not certain, 2 bad words or this help, 3 a rea
 
 /// What `run --help` says of the flag `--certain`.
 const CERTAIN_HELP: &str =
-    "Runs FILE only if certify says that every run of it prints the same report";
+    "Run FILE only if certify says that every run of it prints the same report";
 
 /// What `run --help` says of the flag `--live`.
 const LIVE_HELP: &str =
-    "Keeps no events: any number of tasks and phases, no trace, and the counts alone are printed";
+    "Keep no events: any number of tasks and phases, no trace, and only the counts are printed";
 
-/// What the kernels' help says of the flag `--live`.
-const LIVE_KERNEL_HELP: &str =
-    "Keeps no events: as many as 4,294,967,295 steps, or 2,000,000,000 items";
+/// What `stencil --help` says of the flag `--live`.
+const LIVE_STENCIL_HELP: &str = "Keep no events: up to 4,294,967,295 steps";
+
+/// What `pipeline --help` says of the flag `--live`.
+const LIVE_PIPELINE_HELP: &str = "Keep no events: up to 2,000,000,000 items";
 
 /// What the help says of the flag `--progress`.
-const PROGRESS_HELP: &str = "Says once a second on standard error how fast it goes";
+const PROGRESS_HELP: &str = "Print progress to standard error once a second";
 
 /// What the options `--trace` say of OUT.
 const TRACE_HELP: &str =
-    "Writes the trace into this file, which is made or emptied first, even if FILE is then refused";
+    "Write the trace into this file, which is made or emptied first, even if FILE is then refused";
 
 /// What the options `--workers` say of N.
-const WORKERS_HELP: &str = "How many threads: 1 to 16; 2 by default";
+const WORKERS_HELP: &str = "Number of threads, 1 to 16 [default: 2]";
 
 /// What `stencil --help` says of the kernel and of the lines.
 const STENCIL_HELP: &str = "\
@@ -154,10 +156,10 @@ With --live nothing is replayed. Lines: items, tasks T ended E refused R, phaser
 Exit status: 0 done, 1 refused, 2 bad words or this help, 3 a read or a write failed.";
 
 /// What the option `--steps` says of S.
-const STEPS_HELP: &str = "How many steps: 0 to 100, or more with --live";
+const STEPS_HELP: &str = "Number of steps, 0 to 100, or more with --live";
 
 /// What the option `--items` says of N.
-const ITEMS_HELP: &str = "How many items: 0 to 100, or more with --live";
+const ITEMS_HELP: &str = "Number of items, 0 to 100, or more with --live";
 
 /// What `replay --help` says of the file and of the lines.
 const REPLAY_HELP: &str = "\
@@ -169,7 +171,7 @@ Exit status: 0 done, 1 refused, 2 bad words or this help, 3 a read or a write fa
 
 /// What the option `--upgrade` says of OUT.
 const UPGRADE_HELP: &str =
-    "Writes the trace as version 2 into this file, which may be FILE, before the report";
+    "Write the trace as version 2 into this file, which may be FILE, before the report";
 
 /// What `certify --help` says of the file and of the lines.
 const CERTIFY_HELP: &str = "\
@@ -198,7 +200,7 @@ Exit status: 0 done, 1 refused, 2 bad words or this help, 3 a read or a write fa
 
 /// What the option `--every` says of N.
 const EVERY_HELP: &str =
-    "Prints the lines so far on standard error after each N events, or with 5s each 5 seconds";
+    "Print the lines so far to standard error after each N events, or with 5s each 5 seconds";
 
 /// What `--help` says of the exit status.
 const PROGRAM_HELP: &str = "\
@@ -241,7 +243,7 @@ fn events_command<'a>(alloc: Global) -> Result<Command<'a>, AllocError>
     file_command(
         alloc,
         "events",
-        "Applies the calls of an events file to one phaser, and prints a line for each",
+        "Apply the calls of an events file to one phaser, and print a line for each",
         "The events file; - reads standard input",
         EVENTS_HELP,
     )
@@ -267,7 +269,7 @@ fn picks_command<'a>(alloc: Global) -> Result<Command<'a>, AllocError>
     let command = file_command(
         alloc,
         "schedule",
-        "Runs a program of tasks without threads, and prints the report",
+        "Run a program of tasks without threads, and print the report",
         "The program; - reads standard input",
         SCHEDULE_HELP,
     )?;
@@ -300,7 +302,7 @@ fn threads_command<'a>(alloc: Global) -> Result<Command<'a>, AllocError>
     let command = file_command(
         alloc,
         "run",
-        "Runs a program of tasks on threads, and prints the report",
+        "Run a program of tasks on threads, and print the report",
         "The program; - reads standard input",
         RUN_HELP,
     )?;
@@ -390,7 +392,7 @@ fn steps_command<'a>(alloc: Global) -> Result<Command<'a>, AllocError>
     let command = kernel_command(
         alloc,
         "stencil",
-        "Runs a stencil over a row of cells on threads, and prints the cells",
+        "Run a stencil over a row of cells on threads, and print the cells",
         STENCIL_HELP,
         needed(
             alloc,
@@ -402,25 +404,33 @@ fn steps_command<'a>(alloc: Global) -> Result<Command<'a>, AllocError>
     command.arg(needed(alloc, "steps", "S", STEPS_HELP))
 }
 
-/// A kernel's command, with `[--workers N] [--live]`.
-fn live_kernel_command<'a>(alloc: Global, command: Command<'a>) -> Result<Command<'a>, AllocError>
+/// A kernel's command, with `[--workers N] [--live]`, of which the help says this.
+fn live_kernel_command<'a>(
+    alloc: Global,
+    command: Command<'a>,
+    help: &'a str,
+) -> Result<Command<'a>, AllocError>
     requires local { (fields_of command).has_globals ≡ false }
     ensures app { IfOk result (λ c. app_of c ≡ with_rule (with_rule (app_of command.entry)
         (option_rule (codes "workers"))) (flag_rule (codes "live"))) }
     ensures local { IfOk result (λ c. (fields_of c).has_globals ≡ false) }
 {
-    let live = flag(alloc, "live", LIVE_KERNEL_HELP);
+    let live = flag(alloc, "live", help);
     command.arg(workers_argument(alloc))?.arg(live)
 }
 
-/// A kernel's command, with `[--workers N] [--live] [--progress]`.
-fn worked_command<'a>(alloc: Global, command: Command<'a>) -> Result<Command<'a>, AllocError>
+/// A kernel's command, with `[--workers N] [--live] [--progress]`; the help says this of `--live`.
+fn worked_command<'a>(
+    alloc: Global,
+    command: Command<'a>,
+    live_help: &'a str,
+) -> Result<Command<'a>, AllocError>
     requires local { (fields_of command).has_globals ≡ false }
     ensures app { IfOk result (λ c. app_of c ≡ with_workers (app_of command.entry)) }
     ensures local { IfOk result (λ c. (fields_of c).has_globals ≡ false) }
 {
     let progress = flag(alloc, "progress", PROGRESS_HELP);
-    live_kernel_command(alloc, command)?.arg(progress)
+    live_kernel_command(alloc, command, live_help)?.arg(progress)
 }
 
 /// `stencil --first LIST --steps S [--workers N] [--live] [--progress]`.
@@ -429,7 +439,7 @@ fn stencil_command<'a>(alloc: Global) -> Result<Command<'a>, AllocError>
     ensures local { IfOk result (λ c. (fields_of c).has_globals ≡ false) }
 {
     let command = steps_command(alloc)?;
-    worked_command(alloc, command)
+    worked_command(alloc, command, LIVE_STENCIL_HELP)
 }
 
 /// `pipeline --stages K --items N`.
@@ -441,9 +451,9 @@ fn items_command<'a>(alloc: Global) -> Result<Command<'a>, AllocError>
     let command = kernel_command(
         alloc,
         "pipeline",
-        "Runs a pipeline of stages on threads, and prints the items",
+        "Run a pipeline of stages on threads, and print the items",
         PIPELINE_HELP,
-        needed(alloc, "stages", "K", "How many stages: 1 to 15"),
+        needed(alloc, "stages", "K", "Number of stages, 1 to 15"),
     )?;
     command.arg(needed(alloc, "items", "N", ITEMS_HELP))
 }
@@ -454,7 +464,7 @@ fn pipeline_command<'a>(alloc: Global) -> Result<Command<'a>, AllocError>
     ensures local { IfOk result (λ c. (fields_of c).has_globals ≡ false) }
 {
     let command = items_command(alloc)?;
-    worked_command(alloc, command)
+    worked_command(alloc, command, LIVE_PIPELINE_HELP)
 }
 
 /// `replay FILE [--upgrade OUT]`.
@@ -465,7 +475,7 @@ fn replay_command<'a>(alloc: Global) -> Result<Command<'a>, AllocError>
     let command = file_command(
         alloc,
         "replay",
-        "Makes the events of a trace again, and prints the report",
+        "Make the events of a trace again, and print the report",
         "The trace; - reads standard input",
         REPLAY_HELP,
     )?;
@@ -480,7 +490,7 @@ fn certify_command<'a>(alloc: Global) -> Result<Command<'a>, AllocError>
     file_command(
         alloc,
         "certify",
-        "Says whether every run of a program prints the same report",
+        "Say whether every run of a program prints the same report",
         "The program; - reads standard input",
         CERTIFY_HELP,
     )
@@ -494,7 +504,7 @@ fn judge_command<'a>(alloc: Global) -> Result<Command<'a>, AllocError>
     let command = file_command(
         alloc,
         "judge",
-        "Says whether the events of a log could happen, line by line as it comes",
+        "Say whether the events of a log could happen, line by line as it comes",
         "The log; - reads standard input",
         JUDGE_HELP,
     )?;

@@ -69,7 +69,7 @@ fn run<H: Threads + Wait + Sync>(rt: &HostRuntime, threads: &H) -> Status {
             Err(_) => return out_of_memory(rt),
         },
         Err(error) if error.kind() == ErrorKind::OutOfMemory => return out_of_memory(rt),
-        Err(_) => return print_usage(rt, "error: the words are not text\n"),
+        Err(_) => return print_usage(rt, "error: an argument isn't valid UTF-8\n"),
     };
     let mut borrowed: Vec<&str> = Vec::new(rt.alloc());
     for argument in &arguments {

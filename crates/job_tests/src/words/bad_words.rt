@@ -432,11 +432,11 @@ fn help(rt: HostRuntime) -> Result<(), Fail> {
         (&["phaser_run", "--help"], "Exit status: 0 done"),
         (
             &["phaser_run", "run", "--help"],
-            "Keeps no events: any number of tasks and phases, no trace, and the counts alone are printed",
+            "Keep no events: any number of tasks and phases, no trace, and only the counts are printed",
         ),
         (
             &["phaser_run", "run", "--help"],
-            "Says once a second on standard error how fast it goes",
+            "Print progress to standard error once a second",
         ),
         (&["phaser_run", "run", "--help"], "--workers <N>"),
         (
@@ -445,7 +445,7 @@ fn help(rt: HostRuntime) -> Result<(), Fail> {
         ),
         (&["phaser_run", "stencil", "--help"], "--first <LIST>"),
         (&["phaser_run", "pipeline", "--help"], "--stages <K>"),
-        (&["phaser_run", "-h"], "Applies the calls of an events file"),
+        (&["phaser_run", "-h"], "Apply the calls of an events file"),
         (
             &["phaser_run", "events", "--help"],
             "- reads standard input",
