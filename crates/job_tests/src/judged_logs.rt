@@ -184,7 +184,7 @@ fn what_cannot_happen(rt: HostRuntime) {
 #[test]
 fn what_is_no_event(rt: HostRuntime) {
     let faults =
-        "refused 24 BadText at 3\nline 3: this is no event: the line is cut, or isn't JSON, or has an unknown word, a number out of its range, or items too many or too few\n";
+        "refused 24 BadText at 3\nline 3: this is not an event: it is cut off, isn't JSON, or has an unknown word, a number out of range, or the wrong number of items\n";
     for line in [
         "[6,\"p\",0,\"sig\",1",
         "{\"version\":2}",

@@ -88,7 +88,7 @@ refusal_words refusals.AlreadySignalled = codes "it has signalled since its last
 refusal_words refusals.NotSignalled = codes "it hasn't signalled its phase"
 refusal_words refusals.SingleMismatch = codes "another single is proposed in this phase, or another task runs it"
 refusal_words refusals.NoAccumulator = codes "the phaser has no accumulator of that number"
-refusal_words refusals.NoPhaseYet = codes "it has ended no turn there yet"
+refusal_words refusals.NoPhaseYet = codes "it hasn't finished a turn there yet"
 refusal_words refusals.MoreThanParent = codes "the child's mode isn't within its own"
 refusal_words refusals.RegisteredTwice = codes "the child is registered there already"
 refusal_words refusals.RegsFull = codes "the phaser has its most tasks, 256"
@@ -115,7 +115,7 @@ event_text p e why.ClaimsInstead o =
     codes "task " ++ decimal (task_of e) ++ codes " had a single to claim, and couldn't pass"
 event_text p e why.PassesInstead o = codes "task " ++ decimal (task_of e) ++ codes " had no single to claim"
 event_text p e (why.SawOther x) o = (codes "task " ++ decimal (task_of e) ++ codes " would have seen ") ++ seen_text x
-event_text p e why.Memory o = codes "there is no memory for it"
+event_text p e why.Memory o = codes "out of memory"
 event_text p e why.Over o = codes "an event before it was refused"
 
 -- ---- a line
@@ -124,7 +124,7 @@ event_text p e why.Over o = codes "an event before it was refused"
 abbrev pub reason_text : Reason → Owing → List ℕ
 reason_text NoHeader o = codes "this isn't the header {\"version\":2}"
 reason_text NoEvent o =
-    codes "this is no event: the line is cut, or isn't JSON, or has an unknown word, a number out of its range, or items too many or too few"
+    codes "this is not an event: it is cut off, isn't JSON, or has an unknown word, a number out of range, or the wrong number of items"
 reason_text TooLong o = codes "this line has more than 65,536 bytes"
 reason_text (Ticket t) o = codes "ticket " ++ decimal t ++ codes " isn't greater than that of the line before"
 reason_text (Event e r) o = event_text e.phaser e.event r o

@@ -87,7 +87,7 @@ fn words_of(refusal: Refusal) -> &'static str
         Refusal::SingleMismatch =>
             "another single is proposed in this phase, or another task runs it",
         Refusal::NoAccumulator => "the phaser has no accumulator of that number",
-        Refusal::NoPhaseYet => "it has ended no turn there yet",
+        Refusal::NoPhaseYet => "it hasn't finished a turn there yet",
         Refusal::MoreThanParent => "the child's mode isn't within its own",
         Refusal::RegisteredTwice => "the child is registered there already",
         Refusal::RegsFull => "the phaser has its most tasks, 256",
@@ -248,7 +248,7 @@ fn write_event<W: fmt::Write>(
         Refused::ClaimsInstead => write!(f, "task {task} had a single to claim, and couldn't pass"),
         Refused::PassesInstead => write!(f, "task {task} had no single to claim"),
         Refused::SawOther(seen) => write_saw(f, task, seen),
-        Refused::Memory => write!(f, "there is no memory for it"),
+        Refused::Memory => write!(f, "out of memory"),
         Refused::Over => write!(f, "an event before it was refused"),
     }
 }
@@ -265,7 +265,7 @@ fn write_reason<W: fmt::Write>(
         Reason::NoHeader => write!(f, "this isn't the header {{\"version\":2}}"),
         Reason::NoEvent => write!(
             f,
-            "this is no event: the line is cut, or isn't JSON, or has an unknown word, a number out of its range, or items too many or too few"
+            "this is not an event: it is cut off, isn't JSON, or has an unknown word, a number out of range, or the wrong number of items"
         ),
         Reason::TooLong => write!(f, "this line has more than 65,536 bytes"),
         Reason::Ticket(ticket) => {
