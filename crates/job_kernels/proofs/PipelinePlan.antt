@@ -100,22 +100,30 @@ abbrev pub total : ℕ → ℕ → ℕ
 total items zero = items
 total items (suc j) = items + j
 
--- the task of place i, that has begun k turns and is done with so many phases of its phaser
-pub data TaskAt (stages items i k done : ℕ) (d : Does PipelineBody) : Type 0 where
-  source_sends : (r : ℕ) → i ≡ 0 → k + suc r ≡ items → done ≡ k
+-- the source, that has begun k turns and is done with so many phases of its phaser
+pub data SourceAt (items k done : ℕ) (d : Does PipelineBody) : Type 0 where
+  sends : (r : ℕ) → k + suc r ≡ items → done ≡ k
       → Goes d ((acts.Send 0 0 (pos (k + 1)), Done) ∷ (acts.Next, Done) ∷ source_left (k + 1) r)
-      → TaskAt stages items i k done d
-  source_turns : (r : ℕ) → i ≡ 0 → k + suc r ≡ items → done ≡ k + 1
-      → Goes d ((acts.Next, Done) ∷ source_left (k + 1) r) → TaskAt stages items i k done d
-  source_ends : i ≡ 0 → k ≡ items → done ≡ k → Goes d [] → TaskAt stages items i k done d
-  turns : (j r : ℕ) → i ≡ suc j → k + suc r ≡ items + j → done ≡ k + 1
-      → Goes d (lines_of stages j k ++ reader_left stages j (k + 1) r) → TaskAt stages items i k done d
-  looks : (j p r : ℕ) → i ≡ suc j → k ≡ p + 1 → k + r ≡ items + j → done ≡ k
+      → SourceAt items k done d
+  turns : (r : ℕ) → k + suc r ≡ items → done ≡ k + 1 → Goes d ((acts.Next, Done) ∷ source_left (k + 1) r)
+      → SourceAt items k done d
+  ends : k ≡ items → done ≡ k → Goes d [] → SourceAt items k done d
+
+-- and so the stage behind phaser j, or the sink
+pub data ReaderAt (stages items j k done : ℕ) (d : Does PipelineBody) : Type 0 where
+  turns : (r : ℕ) → k + suc r ≡ items + j → done ≡ k + 1
+      → Goes d (lines_of stages j k ++ reader_left stages j (k + 1) r) → ReaderAt stages items j k done d
+  looks : (p r : ℕ) → k ≡ p + 1 → k + r ≡ items + j → done ≡ k
       → Goes d ((acts.Look j 0, Saw (items_at j p)) ∷ sends_of stages j p ++ reader_left stages j k r)
-      → TaskAt stages items i k done d
-  sends : (j r : ℕ) (v : ℤ) → i ≡ suc j → i ≤ stages → k + r ≡ items + j → done ≡ k → items_at i k ≡ Value v
-      → Goes d ((acts.Send i 0 v, Done) ∷ reader_left stages j k r) → TaskAt stages items i k done d
-  ends : (j : ℕ) → i ≡ suc j → k ≡ items + j → done ≡ k + 1 → Goes d [] → TaskAt stages items i k done d
+      → ReaderAt stages items j k done d
+  sends : (r : ℕ) (v : ℤ) → suc j ≤ stages → k + r ≡ items + j → done ≡ k → items_at (suc j) k ≡ Value v
+      → Goes d ((acts.Send (suc j) 0 v, Done) ∷ reader_left stages j k r) → ReaderAt stages items j k done d
+  ends : k ≡ items + j → done ≡ k + 1 → Goes d [] → ReaderAt stages items j k done d
+
+-- the task of a place
+abbrev pub TaskAt : ℕ → ℕ → ℕ → ℕ → ℕ → Does PipelineBody → Type 0
+TaskAt stages items zero k done d = SourceAt items k done d
+TaskAt stages items (suc j) k done d = ReaderAt stages items j k done d
 
 -- the tasks of a pipeline, place by place
 abbrev pub pipeline_shape : ℕ → ℕ → Shape
@@ -171,16 +179,15 @@ root_spawns_stages items stages =
 
 module _ (stages items : ℕ) where
   -- the source between two phases
-  source_at : (k r : ℕ) (d : Does PipelineBody) → k + r ≡ items → Goes d (source_left k r)
-      → TaskAt stages items 0 k k d
-  source_at k zero d e goes = TaskAt.source_ends refl (without_zero k items e) refl goes
-  source_at k (suc r) d e goes = TaskAt.source_sends r refl e refl goes
+  source_at : (k r : ℕ) (d : Does PipelineBody) → k + r ≡ items → Goes d (source_left k r) → SourceAt items k k d
+  source_at k zero d e goes = SourceAt.ends (without_zero k items e) refl goes
+  source_at k (suc r) d e goes = SourceAt.sends r e refl goes
 
   -- a reader between two turns
   reader_at : (j k r : ℕ) (d : Does PipelineBody) → k + r ≡ items + j → Goes d (reader_left stages j k r)
-      → TaskAt stages items (suc j) k (k + 1) d
-  reader_at j k zero d e goes = TaskAt.ends j refl (without_zero k (items + j) e) refl goes
-  reader_at j k (suc r) d e goes = TaskAt.turns j r refl e refl goes
+      → ReaderAt stages items j k (k + 1) d
+  reader_at j k zero d e goes = ReaderAt.ends (without_zero k (items + j) e) refl goes
+  reader_at j k (suc r) d e goes = ReaderAt.turns r e refl goes
 
   -- what comes of a look
   record Seen (j k : ℕ) (d : Does PipelineBody) : Type 0 where
@@ -188,7 +195,7 @@ module _ (stages items : ℕ) where
     least : k ≤ next
     most : next ≤ k + 1
     so : (next ≡ k) ⊎ ((next ≡ k + 1) × (out stages (suc j) k ≡ []))
-    at : TaskAt stages items (suc j) k next d
+    at : ReaderAt stages items j k next d
 
   -- a stage sends on what it saw, if it saw an item
   seen_by : (j p r : ℕ) (d : Does PipelineBody) (b : Bool) (x : Looked ℤ) → nat_lt j stages ≡ b
@@ -200,7 +207,7 @@ module _ (stages items : ℕ) where
         least = le_self (p + 1);
         most = le_next (p + 1);
         so = inl refl;
-        at = TaskAt.sends j r v refl (lt_next_le j stages (ltb-true j stages lt)) e refl
+        at = ReaderAt.sends r v (lt_next_le j stages (ltb-true j stages lt)) e refl
             (ap (λ q. items_at (suc j) q) (add-one p) ∙ is)
             (subst (λ q. Goes d ((acts.Send q 0 v, Done) ∷ reader_left stages j (p + 1) r)) (add-one j) goes);
       }
@@ -235,75 +242,48 @@ module _ (stages items : ℕ) where
   out_is : (i k : ℕ) (v : ℤ) → i ≤ stages → items_at i k ≡ Value v → out stages i k ≡ v ∷ []
   out_is i k v le is = rw (le-leb i stages le) (ap (λ y. value_seen y) is)
 
-  -- by what is left
-  step_of : (i k done : ℕ) (d : Does PipelineBody) → i < stages + 2 → TaskAt stages items i k done d
-      → TaskStep (pipeline_shape stages items) i k done d
-  step_of i k done d lt (TaskAt.source_sends r z e c goes) =
-      TaskStep.to_send (pos (k + 1))
-      (goes.0 ∙ ap (λ x. acts.Send x 0 (pos (k + 1))) (sym z))
-      (out_is i k (pos (k + 1)) (subst (λ x. x ≤ stages) (sym z) (zero_least stages))
-      (ap (λ x. items_at x k) z)) c
-      (subst (λ x. k + 1 ≤ items + x) (sym z) (room k r items e))
-      (subst (λ x. TaskAt stages items x k (k + 1) (pipeline_next Done d.1)) (sym z)
-      (TaskAt.source_turns r refl e refl goes.1))
-    where
-      room : (k r n : ℕ) → k + suc r ≡ n → k + 1 ≤ n + 0
-      room k r n h = omega arith
-  step_of i k done d lt (TaskAt.source_turns r z e c goes) =
+  -- by what the source has left
+  source_step : (k done : ℕ) (d : Does PipelineBody) → SourceAt items k done d
+      → TaskStep (pipeline_shape stages items) 0 k done d
+  source_step k done d (SourceAt.sends r e c goes) =
+      TaskStep.to_send (pos (k + 1)) goes.0 (out_is 0 k (pos (k + 1)) (zero_least stages) refl) c
+      (omega (arith, e)) (SourceAt.turns r e refl goes.1)
+  source_step k done d (SourceAt.turns r e c goes) =
       TaskStep.to_turn goes.0 (subst (λ x. k + 1 ≤ x) (sym c) (le_self (k + 1)))
-      (subst (λ x. TaskAt stages items x (k + 1) done (pipeline_next Done d.1)) (sym z)
-      (subst (λ x. TaskAt stages items 0 (k + 1) x (pipeline_next Done d.1)) (sym c)
-      (source_at (k + 1) r (pipeline_next Done d.1) (next_on k r items e) goes.1)))
-  step_of i k done d lt (TaskAt.source_ends z e c goes) =
-      TaskStep.to_end goes (covers i k done z e c) (e ∙ ap (λ x. total items x) (sym z))
-    where
-      covers : (i k done : ℕ) → i ≡ 0 → k ≡ items → done ≡ k → items + i ≤ done
-      covers i k done a b c = omega arith
-  step_of i k done d lt (TaskAt.turns j r z e c goes) =
+      (subst (λ x. SourceAt items (k + 1) x (pipeline_next Done d.1)) (sym c)
+      (source_at (k + 1) r (pipeline_next Done d.1) (next_on k r items e) goes.1))
+  source_step k done d (SourceAt.ends e c goes) = TaskStep.to_end goes (omega (arith, e, c)) e
+
+  -- by what a reader has left
+  reader_step : (j k done : ℕ) (d : Does PipelineBody) → suc j < stages + 2 → ReaderAt stages items j k done d
+      → TaskStep (pipeline_shape stages items) (suc j) k done d
+  reader_step j k done d lt (ReaderAt.turns r e c goes) =
       TaskStep.to_turn goes.0 (subst (λ x. k + 1 ≤ x) (sym c) (le_self (k + 1)))
-      (TaskAt.looks j k r z refl (next_on k r (items + j) e) c goes.1)
-  step_of i k done d lt (TaskAt.looks j p r z t e c goes) =
-      let after : Goes (pipeline_next (Saw (items_at j p)) d.1)
-      (sends_of stages j p ++ reader_left stages j (p + 1) r) =
-      subst (λ x. Goes (pipeline_next (Saw (items_at j p)) d.1)
-      (sends_of stages j p ++ reader_left stages j x r)) t
-      goes.1 in
-      let s : Seen j (p + 1) (pipeline_next (Saw (items_at j p)) d.1) =
-      seen_by j p r (pipeline_next (Saw (items_at j p)) d.1) (nat_lt j stages) (items_at (suc j) (suc p)) refl
-      refl
+      (ReaderAt.looks k r refl (next_on k r (items + j) e) c goes.1)
+  reader_step j k done d lt (ReaderAt.looks p r t e c goes) =
+      let heard = pipeline_next (Saw (items_at j p)) d.1 in
+      let after : Goes heard (sends_of stages j p ++ reader_left stages j (p + 1) r) =
+      subst (λ x. Goes heard (sends_of stages j p ++ reader_left stages j x r)) t goes.1 in
+      let s : Seen j (p + 1) heard =
+      seen_by j p r heard (nat_lt j stages) (items_at (suc j) (suc p)) refl refl
       (subst (λ x. x + r ≡ items + j) t e) after in
       let same : done ≡ p + 1 = c ∙ t in
-      TaskStep.to_look j p s.next goes.0 (inside i j z lt) t (part_le k r (items + j) e)
-      (subst (λ x. x ≤ s.next) (sym t) s.least)
-      (subst (λ x. s.next ≤ items + x) (sym z) (bound s.next p r j k s.most t e))
+      TaskStep.to_look j p s.next goes.0 (omega (arith, lt)) t (part_le k r (items + j) e)
+      (subst (λ x. x ≤ s.next) (sym t) s.least) (omega (arith, s.most, t, e))
       (elim s.so [
         | inl y ↦ inl (y ∙ sym same)
-        | inr y ↦ inr (
-          y.0 ∙ ap (λ x. x + 1) (sym same),
-          subst (λ x. out stages x done ≡ []) (sym z) (subst (λ x. out stages (suc j) x ≡ []) (sym same) y.1),
-        )
+        | inr y ↦ inr (y.0 ∙ ap (λ x. x + 1) (sym same), subst (λ x. out stages (suc j) x ≡ []) (sym same) y.1)
       ])
-      (subst (λ x. TaskAt stages items x k s.next (pipeline_next (Saw (items_at j p)) d.1)) (sym z)
-      (subst (λ x. TaskAt stages items (suc j) x s.next (pipeline_next (Saw (items_at j p)) d.1)) (sym t)
-      s.at))
-    where
-      inside : (i j : ℕ) → i ≡ suc j → i < stages + 2 → j < stages + 1
-      inside i j a b = omega arith
+      (subst (λ x. ReaderAt stages items j x s.next heard) (sym t) s.at)
+  reader_step j k done d lt (ReaderAt.sends r v le e c is goes) =
+      TaskStep.to_send v goes.0 (out_is (suc j) k v le is) c (omega (arith, e))
+      (reader_at j k r (pipeline_next Done d.1) e goes.1)
+  reader_step j k done d lt (ReaderAt.ends e c goes) = TaskStep.to_end goes (omega (arith, e, c)) e
 
-      bound : (x p r j k : ℕ) → x ≤ (p + 1) + 1 → k ≡ p + 1 → k + r ≡ items + j → x ≤ items + suc j
-      bound x p r j k a b c = omega arith
-  step_of i k done d lt (TaskAt.sends j r v z le e c is goes) =
-      TaskStep.to_send v goes.0 (out_is i k v le is) c (subst (λ x. k + 1 ≤ items + x) (sym z) (room k r j e))
-      (subst (λ x. TaskAt stages items x k (k + 1) (pipeline_next Done d.1)) (sym z)
-      (reader_at j k r (pipeline_next Done d.1) e goes.1))
-    where
-      room : (k r j : ℕ) → k + r ≡ items + j → k + 1 ≤ items + suc j
-      room k r j h = omega arith
-  step_of i k done d lt (TaskAt.ends j z e c goes) =
-      TaskStep.to_end goes (covers i j k done z e c) (e ∙ ap (λ x. total items x) (sym z))
-    where
-      covers : (i j k done : ℕ) → i ≡ suc j → k ≡ items + j → done ≡ k + 1 → items + i ≤ done
-      covers i j k done a b c = omega arith
+  task_step : (i k done : ℕ) (d : Does PipelineBody) → i < stages + 2 → TaskAt stages items i k done d
+      → TaskStep (pipeline_shape stages items) i k done d
+  task_step zero k done d lt at = source_step k done d at
+  task_step (suc j) k done d lt at = reader_step j k done d lt at
 
 -- ---- at its start
 
@@ -398,7 +378,7 @@ pipeline_plan stages items few small =
     record {
       rooted = rooted stages items;
       starts = λ i lt. task_starts stages items i few small lt;
-      steps = λ i k done d lt at. step_of stages items i k done d lt at;
+      steps = task_step stages items;
       enough = one_more stages;
       own = λ i lt. has_own stages i (inside i stages lt);
       folds = λ i p lt. rw (le-leb i stages (inside i stages lt)) (least_seen (items_at i p));
