@@ -1,0 +1,11 @@
+pub mod Counted
+pub mod Waiters
+pub mod Parked
+pub mod SlotReads
+pub mod Others
+pub mod Opens
+pub mod Busy
+pub mod Refused
+pub mod Born
+pub mod Spawns
+pub mod SpawnRefused
