@@ -9,3 +9,5 @@ pub mod Refused
 pub mod Born
 pub mod Spawns
 pub mod SpawnRefused
+pub mod Ends
+pub mod EndRefused

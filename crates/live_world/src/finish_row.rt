@@ -1,6 +1,6 @@
 //! The slot of a finish.
 ghost use Rattle.std.specs.Prelude.{◌≡◌, ◌<◌, ◌+◌, ◌&&◌, ◌==◌, ◌^◌, true, false, None};
-ghost use Rattle.live_world.specs.Live.{blank_finish};
+ghost use Rattle.live_world.specs.inner.Steps.{emptier, freed_by};
 
 use std::marker::Model;
 
@@ -59,6 +59,18 @@ impl FinishRow {
         ensures { self.new ≡ record self.old { alive = self.old.alive + 1 } }
     {
         self.alive += 1;
+    }
+
+    /// Counts one task less in it. The slot of its owner, if that waited for just this.
+    pub(crate) fn note_end(&mut self) -> Option<u32>
+        ensures emptier { self.new ≡ emptier self.old }
+        ensures freed { result ≡ freed_by self.old }
+    {
+        self.alive = self.alive.saturating_sub(1);
+        if self.alive == 0 {
+            return self.waiter.take();
+        }
+        None
     }
 
     /// The slot that is free after this one, if this one is free.

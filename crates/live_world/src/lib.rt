@@ -1,6 +1,6 @@
 //! A live world: the tasks and finishes that are alive, in slots that are used again. It stores no history.
 //! Each call makes the events of one task's act, and the world stands for the legal history with just these more (`StandsFor`).
-//! Phasers, and the acts that wait, are still to come: `make`, `signal`, `wait`, `next`, `shut`, `end`.
+//! Phasers, the acts that wait (`shut`, `signal`, `wait`, `next`), the root's end and the list of the freed are still to come.
 #![tactic(auto)]
 
 mod at;

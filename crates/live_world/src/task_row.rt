@@ -1,5 +1,6 @@
 //! The slot of a task.
 ghost use Rattle.std.specs.Prelude.{◌≡◌, ◌<◌, ◌+◌, ◌&&◌, ◌∷◌, ◌==◌, [], true, false, OnOk, OnErr, IfErr, Ok, Err};
+ghost use Rattle.phase_modes.specs.Lists.{is_empty};
 ghost use Rattle.live_world.specs.Live.{blank_task, is_free, inner_at};
 
 use crate::at::FinishAt;
@@ -133,6 +134,35 @@ impl TaskRow {
         ensures { self.new ≡ record self.old { acts = self.old.acts + 1 } }
     {
         self.acts += 1;
+    }
+
+    /// Whether it has no finish of its own open.
+    pub(crate) fn has_shut_all(&self) -> bool
+        ensures { result ≡ is_empty self.now.finishes }
+    {
+        self.finishes.is_empty()
+    }
+
+    /// The finish in which it was spawned.
+    pub(crate) fn home(&self) -> FinishAt
+        ensures { result ≡ self.now.home }
+    {
+        self.home
+    }
+
+    /// Notes that it need not wait any more.
+    pub(crate) fn unpark(&mut self)
+        ensures { self.new ≡ record self.old { parked = false } }
+    {
+        self.parked = false;
+    }
+
+    /// Notes that it has ended: its slot is free, and the slot `next` after it.
+    pub(crate) fn leave(&mut self, next: u32)
+        ensures { self.new ≡ record self.old { taken = false } }
+    {
+        self.taken = false;
+        self.next_free = next;
     }
 
     /// The slot that is free after this one, if this one is free.

@@ -1,14 +1,15 @@
 //! The live world, and the calls that never wait.
-ghost use Rattle.std.specs.Prelude.{◌≡◌, ◌<◌, ◌≤◌, ◌⊎◌, ◌∷◌, [], List, true, false, length, IfOk, IfErr, OnErr, Ok, Err};
-ghost use Rattle.finish_core.specs.declared.event.FinishEvent.TheVariants.{Opened, Spawned};
+ghost use Rattle.std.specs.Prelude.{◌≡◌, ◌<◌, ◌≤◌, ◌⊎◌, ◌==◌, ◌∷◌, [], List, true, false, length, IfOk, IfErr, OnOk, OnErr, Ok, Err};
+ghost use Rattle.finish_core.specs.declared.event.FinishEvent.TheVariants.{Opened, Spawned, Ended};
 ghost use Rattle.world_model.specs.Replies.{reply};
 ghost use Rattle.world_model.specs.Scopes.{inner};
-ghost use Rattle.world_model.specs.declared.event.Begun.TheVariants.{Async};
+ghost use Rattle.world_model.specs.Tasks.{home};
+ghost use Rattle.world_model.specs.declared.event.Begun.TheVariants.{Async, End};
 ghost use Rattle.world_model.specs.declared.event.WorldEvent.{WorldEvent as Event};
 ghost use Rattle.world_model.specs.declared.event.WorldEvent.TheVariants.{Finish, Begin};
 ghost use Rattle.live_world.specs.Live.{live_limits, task_at, finish_at, is_there, is_free, inner_at};
 ghost use Rattle.live_world.specs.StandsFor.{StandsFor};
-ghost use Rattle.live_world.specs.inner.Steps.{MayAct, MayNotAct, OpenRefused, SpawnRefused, first_state, opened, spawned};
+ghost use Rattle.live_world.specs.inner.Steps.{MayAct, MayEnd, MayNotAct, OpenRefused, SpawnRefused, EndRefused, first_state, left, opened, spawned, unparked};
 
 use crate::at::{FinishAt, TaskAt};
 use crate::finish_row::FinishRow;
@@ -53,9 +54,17 @@ impl LiveWorld {
     /// none for their slots.
     pub fn new(alloc: Global) -> Result<LiveWorld, Refusal>
         ensures stands { IfOk result (λ s. StandsFor [] s) }
+        ensures root { IfOk result (λ s. is_there s (record { slot = 0; number = 0 }) ≡ true) }
         ensures memory { IfErr result (λ r. r ≡ Refusal.Memory) }
     {
         LiveWorld::first(alloc)
+    }
+
+    /// The name of the root.
+    pub fn root(&self) -> TaskAt
+        ensures { result ≡ record { slot = 0; number = 0 } }
+    {
+        TaskAt { slot: 0, number: 0 }
     }
 
     fn first(alloc: Global) -> Result<LiveWorld, Refusal>
@@ -219,6 +228,7 @@ impl LiveWorld {
         }
         let slot = vacant_task(&mut self.tasks, self.free_task)?;
         self.tasks[place as usize].note_act();
+        self.free_task = next_free(&self.tasks, slot, self.free_task);
         put_task(
             &mut self.tasks,
             slot,
@@ -227,5 +237,100 @@ impl LiveWorld {
         self.finishes[home.slot as usize].note_birth();
         self.next_task = number + 1;
         Ok(TaskAt { slot, number })
+    }
+
+    /// A task other than the root ends, in the finish in which it was spawned. The root's end is
+    /// still to come.
+    ///
+    /// Refused, in this order: `NotNow` if the task isn't there or is in an act, `FinishOpen` if it
+    /// has a finish open. Then nothing changes.
+    pub fn end(&mut self, task: TaskAt) -> Result<(), Refusal>
+        ensures stands { (w : List Event) → StandsFor w self.old → OnOk result
+            (StandsFor (Finish (home task.number w) (Ended task.number) ∷ Begin task.number End ∷ w) self.new) }
+        ensures answer { (w : List Event) → StandsFor w self.old → is_there self.old task ≡ true
+            → (task.number == 0) ≡ false
+            → IfErr result (λ r. reply live_limits w (Begin task.number End) ≡ Err r) }
+        ensures gone { is_there self.old task ≡ false → result ≡ Err Refusal.NotNow }
+        ensures unchanged { OnErr result (self.new ≡ self.old) }
+    {
+        self.end_now(task)
+    }
+
+    fn end_now(&mut self, task: TaskAt) -> Result<(), Refusal>
+        ensures may { OnOk result (MayEnd self.old task) }
+        ensures left { OnOk result (self.new ≡ left self.old task.slot) }
+        ensures unchanged { OnErr result (self.new ≡ self.old) }
+        ensures refused { IfErr result (λ r. EndRefused self.old task r) }
+    {
+        match self.may_end(task) {
+            Ok(home) => {
+                self.leave(task.slot, home);
+                Ok(())
+            }
+            Err(refusal) => Err(refusal),
+        }
+    }
+
+    /// The slot of the home of a task that may end.
+    fn may_end(&self, task: TaskAt) -> Result<u32, Refusal>
+        ensures may { OnOk result (MayEnd self.now task) }
+        ensures home { IfOk result (λ h. h ≡ (task_at self.now task.slot).home.slot) }
+        ensures refused { IfErr result (λ r. EndRefused self.now task r) }
+    {
+        if (task.slot as usize) >= self.tasks.len() {
+            return Err(Refusal::NotNow);
+        }
+        let row = &self.tasks[task.slot as usize];
+        if !row.has(task.number) {
+            return Err(Refusal::NotNow);
+        }
+        if task.number == 0 {
+            return Err(Refusal::NotNow);
+        }
+        if !row.is_free() {
+            return Err(Refusal::NotNow);
+        }
+        if !row.has_shut_all() {
+            return Err(Refusal::FinishOpen);
+        }
+        let home = row.home().slot;
+        if home as usize >= self.finishes.len() {
+            return Err(Refusal::NotNow);
+        }
+        Ok(home)
+    }
+
+    /// The task in this slot ends, in the finish in the other.
+    fn leave(&mut self, place: u32, home: u32)
+        requires within { place < length self.old.tasks }
+        requires is_home { home ≡ (task_at self.old place).home.slot }
+        requires home { home < length self.old.finishes }
+        ensures { self.new ≡ left self.old place }
+    {
+        self.tasks[place as usize].leave(self.free_task);
+        self.free_task = place;
+        let freed = self.finishes[home as usize].note_end();
+        unpark(&mut self.tasks, freed);
+    }
+}
+
+/// The slot that is free after this one, which is taken now. A wrong one costs a new slot: whoever
+/// takes a slot looks whether it is free.
+fn next_free(rows: &[TaskRow], slot: u32, free: u32) -> u32 {
+    if (slot as usize) < rows.len() {
+        rows[slot as usize].next_free()
+    } else {
+        free
+    }
+}
+
+/// The task of this slot, if there is one, need not wait any more.
+fn unpark(rows: &mut Vec<TaskRow>, slot: Option<u32>)
+    ensures { rows.new.items ≡ unparked slot rows.old.items }
+{
+    if let Some(slot) = slot {
+        if (slot as usize) < rows.len() {
+            rows[slot as usize].unpark();
+        }
     }
 }

@@ -1,8 +1,9 @@
 -- What each call makes of the slots.
-use Rattle.std.specs.Prelude.{ℕ, ◌≡◌, ◌<◌, ◌≤◌, ◌+◌, ◌⊎◌, nat_lt, if◌then◌else◌, true, false, List, [], ◌∷◌, ◌++◌, length, set, None}
+use Rattle.std.specs.Prelude.{ℕ, ◌≡◌, ◌<◌, ◌≤◌, ◌+◌, ◌-◌, ◌==◌, ◌⊎◌, nat_lt, if◌then◌else◌, true, false, List, [], ◌∷◌, ◌++◌, length, get_or, set, Option, Some, None}
+use Rattle.phase_modes.specs.Lists.{is_empty}
 use Rattle.phase_modes.specs.declared.refusal.Refusal.{Refusal}
-use Rattle.phase_modes.specs.declared.refusal.Refusal.TheVariants.{NotNow, ActsFull, TasksFull, FinishesFull, Memory}
-use Rattle.live_world.specs.Live.{LiveState, blank_task, task_at, finish_at, inner_at, is_there, is_free}
+use Rattle.phase_modes.specs.declared.refusal.Refusal.TheVariants.{NotNow, ActsFull, TasksFull, FinishesFull, FinishOpen, Memory}
+use Rattle.live_world.specs.Live.{TaskLine, FinishLine, LiveState, blank_task, task_at, finish_at, inner_at, is_there, is_free}
 use Rattle.live_world.specs.declared.at.FinishAt.{FinishAt}
 use Rattle.live_world.specs.declared.at.TaskAt.{TaskAt}
 
@@ -72,3 +73,43 @@ SpawnRefused s t r =
     ⊎ (MayAct s t × ((r ≡ Memory)
     ⊎ ((r ≡ NotNow) × (length s.finishes ≤ (inner_at (task_at s t.slot)).slot))
     ⊎ ((r ≡ TasksFull) × (4611686018427387904 ≤ s.next_task))))
+
+-- one task of a finish has ended; if it was the last one, nobody waits for the finish any more
+abbrev pub emptier : FinishLine → FinishLine
+emptier l = record l { alive = l.alive - 1; waiter = if (l.alive - 1) == 0 then None else l.waiter }
+
+-- the slot of the task that need not wait any more
+abbrev pub freed_by : FinishLine → Option ℕ
+freed_by l = if (l.alive - 1) == 0 then l.waiter else None
+
+-- the task of this slot isn't parked any more
+abbrev pub unparked : Option ℕ → List TaskLine → List TaskLine
+unparked None ks = ks
+unparked (Some i) ks = set ks i (record (get_or ks i blank_task) { parked = false })
+
+-- the task in slot i has ended
+abbrev pub left : LiveState → ℕ → LiveState
+left s i = record s {
+  tasks = unparked (freed_by (finish_at s (task_at s i).home.slot)) (set s.tasks i (record (task_at s i) { taken = false }));
+  finishes = set s.finishes (task_at s i).home.slot (emptier (finish_at s (task_at s i).home.slot));
+}
+
+-- a task other than the root may end
+abbrev pub MayEnd : LiveState → TaskAt → Type 0
+MayEnd s t =
+    (is_there s t ≡ true)
+    × (is_free (task_at s t.slot) ≡ true)
+    × (is_empty (task_at s t.slot).finishes ≡ true)
+    × ((t.number == 0) ≡ false)
+    × (t.slot < length s.tasks)
+    × ((task_at s t.slot).home.slot < length s.finishes)
+
+-- it may not, because of this
+abbrev pub EndRefused : LiveState → TaskAt → Refusal → Type 0
+EndRefused s t r =
+    ((r ≡ NotNow) × (is_there s t ≡ false))
+    ⊎ ((r ≡ NotNow) × ((t.number == 0) ≡ true))
+    ⊎ ((r ≡ NotNow) × (is_there s t ≡ true) × (is_free (task_at s t.slot) ≡ false))
+    ⊎ ((r ≡ FinishOpen) × (is_there s t ≡ true) × (is_free (task_at s t.slot) ≡ true)
+    × (is_empty (task_at s t.slot).finishes ≡ false))
+    ⊎ ((r ≡ NotNow) × (length s.finishes ≤ (task_at s t.slot).home.slot))
