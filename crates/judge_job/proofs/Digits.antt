@@ -2,7 +2,7 @@
 use Rattle.std.specs.Cmp.Lexicographic.{pointwise}
 use Rattle.std.proofs.lemmas.Bool.Decides.{Decides-eqb}
 use Rattle.std.proofs.lemmas.Slice.Eq.{strip_prefix_is}
-use Rattle.std.proofs.Common.{eqb, true, false, Bor, Option, None, Some, MatchOption, IfSome, ◌-◌, take_all, length-drop, ◌≡◌, ℕ, suc, ◌+◌, ◌*◌, ◌/◌, ◌%◌, ◌^◌, ◌<◌, List, [], ◌∷◌, ◌++◌, length, get_or, take, drop, decimal, ap, sym, ◌∙◌, arith}
+use Rattle.std.proofs.Common.{eqb, true, false, Bor, Option, None, Some, MatchOption, IfSome, ◌-◌, take_all, ◌≡◌, ℕ, suc, ◌+◌, ◌*◌, ◌/◌, ◌%◌, ◌^◌, ◌<◌, List, [], ◌∷◌, ◌++◌, length, get_or, take, drop, decimal, ap, sym, ◌∙◌, arith}
 use Rattle.std.proofs.Math.Seq.{take-suc}
 use Rattle.std.proofs.lemmas.Fmt.{decimal_digit, decimal_step}
 
