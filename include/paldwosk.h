@@ -462,7 +462,8 @@ void phaser_c_level_free(paldwosk_level_task *task);
 uint32_t phaser_c_level_join(paldwosk_level_task *task, paldwosk_level_task *other);
 /* The task comes. DONE: it came last, and stands in the next phase. NOT_YET: it waits. CLOSED, NOT_NOW, HISTORY_FULL. */
 uint32_t phaser_c_level_come(paldwosk_level_task *task);
-/* Whether a task that has come may go on. DONE: it stands in the next phase. NOT_YET, CLOSED, NOT_NOW. */
+/* Whether a task that has come may go on. DONE: it stands in the next phase. NOT_YET, NOT_NOW. CLOSED: the table was closed
+ * while the task waited, as phaser_c_level_close says; or there is no task. */
 uint32_t phaser_c_level_look(paldwosk_level_task *task);
 /* The task leaves; it is to be freed all the same. NOT_YET: another call has the phaser, or the task kept a value, which is
  * sent now. CLOSED, NOT_NOW. HISTORY_FULL: it has left, and all others had come. */
@@ -472,6 +473,30 @@ uint32_t phaser_c_level_leave(paldwosk_level_task *task);
  * phaser_c_waiting_send and phaser_c_waiting_look. */
 uint32_t phaser_c_level_send(paldwosk_level_task *task, uint8_t accumulator, int32_t value);
 uint32_t phaser_c_level_look_at(paldwosk_level_task *task, uint8_t accumulator, int64_t *value);
+/* The value that the task keeps, and its accumulator: it keeps none then. For a task that stands, or whose table was closed.
+ * NOTHING: it keeps none. NOT_NOW: it waits, and its value may be sent in the round. CLOSED: there is no task. */
+uint32_t phaser_c_level_kept(paldwosk_level_task *task, uint8_t *accumulator, int32_t *value);
+
+/* Who opened a phaser to tasks that stand level, and closes it. One thread at a time may be in a call with it. */
+typedef struct paldwosk_level {
+  void *held; /* NULL while there is none */
+} paldwosk_level;
+
+/* The phaser goes over to these tasks, and the waiting handle holds none. They have to be all that are registered, none of
+ * them twice, each SIG_WAIT in one phase which it hasn't signalled, while nobody waits: else NOT_NOW. There are 256 at most,
+ * and one at least. On any answer but DONE nothing has changed: MEMORY, NOT_NOW, OPEN if there is a keeper, CLOSED if the
+ * waiting handle holds no phaser. */
+uint32_t phaser_c_level_open(paldwosk_level *level, paldwosk_waiting *phaser, const uint64_t *tasks, size_t count);
+/* The next of those tasks, in their order, is put into `task`, which holds none. NOT_NOW: all are taken. MEMORY, OPEN: it may
+ * be asked again. CLOSED: there is no keeper. */
+uint32_t phaser_c_level_take(paldwosk_level *level, paldwosk_level_task *task);
+/* The phaser goes back into the waiting handle, which holds none, and there is no keeper then. All tasks stand level in it:
+ * those that had come haven't signalled, and what they kept isn't sent. No memory is needed. NOT_YET, and nothing has changed:
+ * all have come, or another call has the phaser. OPEN: the waiting handle holds a phaser. CLOSED: there is no keeper. A task
+ * keeps its handle, whose look answers CLOSED if it had come, and whose other calls answer NOT_YET or NOT_NOW. */
+uint32_t phaser_c_level_close(paldwosk_level *level, paldwosk_waiting *phaser);
+/* Frees the keeper, and with the last task the phaser. */
+void phaser_c_level_drop(paldwosk_level *level);
 
 /* ---- The checker */
 

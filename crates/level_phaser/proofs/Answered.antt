@@ -49,3 +49,8 @@ pub same_terms : (s : Story) (r : Reply) → (after s r).terms ≡ s.terms
 same_terms s (refused r) = refl
 same_terms s not_yet = refl
 same_terms s (done e) = refl
+
+pub same_limits : (s : Story) (r : Reply) → (after s r).limits ≡ s.limits
+same_limits s (refused r) = refl
+same_limits s not_yet = refl
+same_limits s (done e) = refl

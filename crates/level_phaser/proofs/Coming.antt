@@ -16,9 +16,9 @@ use Rattle.phase_model.specs.declared.call.Call.{Call}
 use Rattle.phase_model.specs.Replies.{Reply}
 use Rattle.level_phaser.specs.Deeds.{deeds_of, with_signal}
 use Rattle.level_phaser.specs.Views.{signalled, with_role, role_after, gone_on}
-use Rattle.level_phaser.specs.Seen.{AreSeated}
-use Rattle.level_phaser.specs.inner.Board.{busy, total, parts_of, missing_in, missing, Each, FitsIn, Fits, Homes, IsLevel}
-use Rattle.level_phaser.specs.inner.Plays.{came, looked, ended, raised}
+use Rattle.level_phaser.specs.Seen.{AreSeated, GoneOn, IsClosed}
+use Rattle.level_phaser.specs.inner.Board.{busy, total, parts_of, missing_in, missing, Each, FitsIn, Fits, Homes, IsLevel, IsUnopened, IsBoard}
+use Rattle.level_phaser.specs.inner.Plays.{came, looked, looked_shut, ended, raised}
 use Rattle.level_phaser.specs.inner.Board.{sent_in, IsFound, Shown, Rows, Told, AllTold}
 use Rattle.level_phaser.specs.Deeds.{with_sends}
 use Rattle.level_phaser.proofs.Rows.{beside, unchanged, shown_signalled, found_moves, found_after, rows_after, rows_on}
@@ -27,7 +27,7 @@ use Rattle.level_phaser.specs.Changes.{IsKept}
 use Rattle.level_phaser.specs.inner.Folds.{fold_in, IsNoted, AreFolds, AreFresh, IsBehind, Began}
 use Rattle.level_phaser.proofs.Begins.{same_folds, below_folds, began_moves, begins_on, all_fresh, began_standing}
 use Rattle.level_phaser.proofs.Totals.{total_set, total_same, total_at}
-use Rattle.level_phaser.proofs.Keeps.{tail_on, tail_same, after, fits_as, missing_as, cases, none_holds, at_home, unmoved, are_seated, set_home}
+use Rattle.level_phaser.proofs.Keeps.{is_in, not_unopened, tail_on, tail_same, after, fits_as, missing_as, cases, none_holds, at_home, unmoved, are_seated, set_home, no_keeper, not_shut, shut_beside, shut_here}
 
 missing_here : (at phase parts : ℕ) → at ≡ phase → (if eqb at phase then 0 else parts) ≡ 0
 missing_here at phase parts e = ap (λ b. if b then 0 else parts) (eq-eqb at phase e)
@@ -52,6 +52,9 @@ module _ {S : Type 0} (events : S → List Event) (registered : ℕ → S → Bo
 
   abbrev Rule : St → Type 0
   Rule = IsLevel events registered count width replies ready
+
+  abbrev Board : State S (SeatView S) → Type 0
+  Board = IsBoard events registered count width replies ready
 
   abbrev Ok : (ℕ → ℕ) → S → ℕ → List SeatedTask → Type 0
   Ok = Each events registered count width ready
@@ -84,10 +87,10 @@ module _ {S : Type 0} (events : S → List Event) (registered : ℕ → S → Bo
       (f.0, stays f.1, f.2, f.3, f.4)
   word_moves seat Gone tasks at phase word word' value holder i some_missing stays f = f
 
-  pub comes : (slots id : ℕ) (me : Mine) → length me.0.tasks ≡ 1 → me.0.role ≡ Stands → me.1 ≡ []
+  comes_open : (slots id : ℕ) (me : Mine) → length me.0.tasks ≡ 1 → me.0.role ≡ Stands → me.1 ≡ []
       → Allows Rule slots id me 0 (λ x. (x + (2 ^ 64 - 1)) % 2 ^ 64)
       (came events registered width newest replies ready (step slots 0 1 0 none) me)
-  comes slots id me one stands bare s r _ at small =
+  comes_open slots id me one stands bare s r _ at small =
       let x : ℕ = word0 s in
       let v : H = me.0 in
       let level = fits_as events registered count width newest replies ready s r id v Stands at stands in
@@ -126,6 +129,7 @@ module _ {S : Type 0} (events : S → List Event) (registered : ℕ → S → Bo
             (after events registered count width newest replies ready s r (set s.words 0 (x - 1)) (set s.homes 0 none) id v w r.phase r.value id r.seat r.held at
             (length-set s.words 0 (x - 1) ∙ r.wide) (ap (λ (z : ℕ). z + length v.tasks) parts) r.small
             (now ∙ omega arith) over
+            (shut_beside events registered count width newest replies ready s r 0 (x - 1) id v w at (no_keeper v w (Stands) stands refl) (λ e. absurd (omega arith)))
             (inr (ap (λ hs. set hs 0 none) home, inl (now ∙ omega arith)))
             ((r.each id v at).0, (level.1, now ∙ omega arith, refl, refl, level.2))
             (λ i h other e. let f = r.each i h e in (
@@ -164,7 +168,8 @@ module _ {S : Type 0} (events : S → List Event) (registered : ℕ → S → Bo
         subst (λ (z : ℕ). Rule (stepped s 0 z id me.1 w keeps)) less
             (after events registered count width newest replies ready s r (set s.words 0 (x - 1)) s.homes id v w r.phase r.value r.holder r.seat r.held at
             (length-set s.words 0 (x - 1) ∙ r.wide) (ap (λ (z : ℕ). z + length v.tasks) parts) r.small
-            (now ∙ omega arith) over home
+            (now ∙ omega arith) over
+            (shut_beside events registered count width newest replies ready s r 0 (x - 1) id v w at (no_keeper v w (Stands) stands refl) (λ e. absurd (omega arith))) home
             ((r.each id v at).0, (level.0, inl (level.1, level.2)))
             (λ i h other e. let f = r.each i h e in (
               f.0,
@@ -179,20 +184,25 @@ module _ {S : Type 0} (events : S → List Event) (registered : ℕ → S → Bo
         ((λ last. absurd (more last)), λ _. ap (λ c. (w, c)) bare),
       ))
 
+  pub comes : (slots id : ℕ) (me : Mine) → length me.0.tasks ≡ 1 → me.0.role ≡ Stands → me.1 ≡ []
+      → Allows Board slots id me 0 (λ x. (x + (2 ^ 64 - 1)) % 2 ^ 64)
+      (came events registered width newest replies ready (step slots 0 1 0 none) me)
+  comes slots id me one stands bare s r sized at small = ⊎_elim (λ (u : IsUnopened s). absurd (not_unopened s id me.0 (is_in me.0 Stands stands (omega arith)) at u))
+      (λ (k : Rule s). let m = comes_open slots id me one stands bare s k sized at small in (m.0, m.1, m.2, inr m.3, m.4)) r
+
   role_of_some : (cs : List SeatedTask) → 0 < length cs → role_after {S = S} cs ≡ Stands
   role_of_some [] h = absurd (omega arith)
   role_of_some (c ∷ cs) h = refl
 
-  pub looks : (slots id : ℕ) (me : Mine) → me.0.role ≡ Came → Allows Rule slots id me 16 (λ x. x)
-      (looked events registered width newest replies ready (step slots 16 0 0 none) me)
-  looks slots id me waits s r _ at _ =
-      let n : ℕ = get_or s.words 16 0 in
-      let v : H = me.0 in
-      dite (dec_le n v.phase)
-      (λ still. (v, keeps, tt, unmoved events registered count width newest replies ready s r 16 id v at, ((λ over. absurd (omega arith)), λ _. refl)))
-      (λ over.
+  -- the round of the seat's phase is over
+  moves_on : (s : St) (r : Rule s) (i id : ℕ) (v : H) → get_elem? s.views id ≡ some v → v.role ≡ Came → v.phase < r.phase
+      → Rule record {
+        words = set s.words i (get_or s.words i 0);
+        homes = s.homes;
+        views = set s.views id (gone_on v (events r.begins.begun));
+      } × GoneOn events registered ready v (gone_on v (events r.begins.begun))
+  moves_on s r i id v at waits over =
       let f = fits_as events registered count width newest replies ready s r id v Came at waits in
-      let most = r.over in
       let next : (v.phase + 1 ≡ r.phase) × Ok r.seat r.value id (signalled v.tasks) =
       ⊎_elim (λ (e : (v.phase ≡ r.phase) × Ok r.seat r.value id v.tasks). let q = e.0 in
       absurd (omega arith)) (λ (e : (v.phase + 1 ≡ r.phase) × Ok r.seat r.value id (signalled v.tasks)).
@@ -209,13 +219,11 @@ module _ {S : Type 0} (events : S → List Event) (registered : ℕ → S → Bo
       let now : missing r.phase w ≡ length v.tasks = missing_as events registered count width newest replies ready w Stands r.phase role ∙ len in
       let sum = total_set (missing r.phase) s.views id v w at in
       let parts = r.parts in (
-        w,
-        keeps,
-        tt,
         subst (λ (z : List ℕ). Rule record { words = z; homes = s.homes; views = set s.views id w })
-            (sym (set-get_or s.words 16 0))
+            (sym (set-get_or s.words i 0))
             (after events registered count width newest replies ready s r s.words s.homes id v w r.phase r.value r.holder r.seat r.held at r.wide
-            (omega arith) r.small (r.word ∙ omega arith) r.over r.home (
+            (omega arith) r.small (r.word ∙ omega arith) r.over
+            (shut_here events registered count width newest replies ready s r id v w at (no_keeper v w Came waits refl)) r.home (
               (b.longer, (r.each id v at).0.1),
               subst (λ (z : Role S). Suits r.seat z w.tasks w.phase r.phase (word0 s) r.value r.holder id)
                   (sym role) (omega (arith, f.0), next.0, next.1),
@@ -231,19 +239,75 @@ module _ {S : Type 0} (events : S → List Event) (registered : ℕ → S → Bo
             (began_standing events registered replies ready b.begun r.phase w.phase s.words w.role w.tasks w.seen role
             (all_fresh events registered replies ready b.begun w.seen w.tasks (tail_same (events b.begun)) behind.1)))),
         (
-          (λ _. (
-            (
-              b.begun,
-              refl,
-              behind.0,
-              subst (λ (z : ℕ). ready z b.begun) (sym next.0) b.stood,
-              behind.1,
-            ),
-            refl,
-          )),
-          λ still. absurd (over still),
+          b.begun,
+          refl,
+          behind.0,
+          subst (λ (z : ℕ). ready z b.begun) (sym next.0) b.stood,
+          behind.1,
         ),
+      )
+
+  looks_open : (slots id : ℕ) (me : Mine) → me.0.role ≡ Came → Allows Rule slots id me 16 (λ x. x)
+      (looked events registered width newest replies ready (step slots 16 0 0 none) me)
+  looks_open slots id me waits s r _ at _ =
+      let n : ℕ = get_or s.words 16 0 in
+      let v : H = me.0 in
+      dite (dec_le n v.phase)
+      (λ still. (v, keeps, tt, unmoved events registered count width newest replies ready s r 16 id v at, ((λ over. absurd (omega arith)), λ _. refl)))
+      (λ over.
+      let most = r.over in
+      let on = moves_on s r 16 id v at waits (omega arith) in (
+        gone_on v (events r.begins.begun),
+        keeps,
+        tt,
+        on.0,
+        ((λ _. (on.1, refl)), λ still. absurd (over still)),
       ))
+
+  pub looks : (slots id : ℕ) (me : Mine) → me.0.role ≡ Came → 0 < length me.0.tasks → Allows Board slots id me 16 (λ x. x)
+      (looked events registered width newest replies ready (step slots 16 0 0 none) me)
+  looks slots id me waits some_task s r sized at small = ⊎_elim (λ (u : IsUnopened s). absurd (not_unopened s id me.0 (is_in me.0 Came waits some_task) at u))
+      (λ (k : Rule s). let m = looks_open slots id me waits s k sized at small in (m.0, m.1, m.2, inr m.3, m.4)) r
+
+  shut_looks_open : (slots id : ℕ) (me : Mine) → me.0.role ≡ Came → Allows Rule slots id me 17 (λ x. x)
+      (looked_shut events registered width newest replies ready (step slots 17 0 0 none) me)
+  shut_looks_open slots id me waits s r _ at _ =
+      let n : ℕ = get_or s.words 17 0 in
+      let v : H = me.0 in
+      let f = fits_as events registered count width newest replies ready s r id v Came at waits in
+      let is : (n ≡ 0) ⊎ (n ≡ r.phase + 1) = ⊎_elim (λ (z : n ≡ 0). inl z)
+      (λ (t : (n ≡ r.phase + 1) × (i : ℕ) × (u : H) × (x : S) × (get_elem? s.views i ≡ some u)
+      × (u.role ≡ Holder x) × (u.tasks ≡ [])). inr t.0) r.shut in
+      dite (dec_le n (v.phase + 1))
+      (λ still.
+      let closed : 0 < n → IsClosed events registered ready v =
+      λ some_word. (let e : (v.phase ≡ r.phase) × Ok r.seat r.value id v.tasks =
+      ⊎_elim (λ (e : (v.phase ≡ r.phase) × Ok r.seat r.value id v.tasks). e)
+      (λ (e : (v.phase + 1 ≡ r.phase) × Ok r.seat r.value id (signalled v.tasks)). let q = e.0 in
+      ⊎_elim (λ (z : n ≡ 0). absurd (omega arith)) (λ (z : n ≡ r.phase + 1). absurd (omega arith)) is) f.1 in (
+        r.value,
+        (r.each id v at).0.0,
+        subst (λ (z : ℕ). ready z r.value) (sym e.0) r.stands,
+        are_seated events registered count width newest replies ready r.seat r.value id v.tasks e.1,
+      )) in
+      (v, keeps, tt, unmoved events registered count width newest replies ready s r 17 id v at, ((λ over. absurd (omega arith)), λ _. (refl, closed))))
+      (λ over.
+      let later : v.phase < r.phase = ⊎_elim (λ (z : n ≡ 0). absurd (omega arith))
+      (λ (z : n ≡ r.phase + 1). omega arith) is in
+      let on = moves_on s r 17 id v at waits later in (
+        gone_on v (events r.begins.begun),
+        keeps,
+        tt,
+        on.0,
+        ((λ _. (on.1, refl)), λ still. absurd (over still)),
+      ))
+
+  pub shut_looks : (slots id : ℕ) (me : Mine) → me.0.role ≡ Came → 0 < length me.0.tasks
+      → Allows Board slots id me 17 (λ x. x)
+      (looked_shut events registered width newest replies ready (step slots 17 0 0 none) me)
+  shut_looks slots id me waits some_task s r sized at small = ⊎_elim
+      (λ (u : IsUnopened s). absurd (not_unopened s id me.0 (is_in me.0 Came waits some_task) at u))
+      (λ (k : Rule s). let m = shut_looks_open slots id me waits s k sized at small in (m.0, m.1, m.2, inr m.3, m.4)) r
 
   each_signalled : (seat : ℕ → ℕ) (words : List ℕ) (x y : S) (i : ℕ) (cs : List SeatedTask)
       → Telling words x y → Shown words cs → Ok seat x i cs → Ok seat y i (signalled cs)
@@ -350,13 +414,13 @@ module _ {S : Type 0} (events : S → List Event) (registered : ℕ → S → Bo
       (λ (t : (busy ≤ word0 s) × (word0 s ≡ total (missing r.phase) s.views + busy) × (r.held ≡ true)).
       let q = t.0 in absurd (omega arith)) (cases events registered count width newest replies ready s r)
 
-  pub ends : (slots id : ℕ) (me : Mine) (x z y : S) (found : List ℕ) (new : ℕ) → me.0.role ≡ Last x found → me.1 ≡ (0, y) ∷ []
+  ends_open : (slots id : ℕ) (me : Mine) (x z y : S) (found : List ℕ) (new : ℕ) → me.0.role ≡ Last x found → me.1 ≡ (0, y) ∷ []
       → new ≡ count y → AllTold events registered count width ready found x z → ready (me.0.phase + 1) z
       → IsKept events registered count width z y → ready (me.0.phase + 1) y
       → AreFolds events registered replies ready (width z) found z → width z ≤ 4
       → Allows Rule slots id me 0 (λ _. new)
       (λ _. ended events registered width newest replies ready (step slots 0 new 0 none) me new)
-  ends slots id me x z y found new last carried is_count round_z ready_z kept is_ready folds few s r _ at _ =
+  ends_open slots id me x z y found new last carried is_count round_z ready_z kept is_ready folds few s r _ at _ =
       let v : H = me.0 in
       let f = fits_as events registered count width newest replies ready s r id v (Last x found) at last in
       let zero_missing : word0 s ≡ 0 = f.1 in
@@ -423,6 +487,7 @@ module _ {S : Type 0} (events : S → List Event) (registered : ℕ → S → Bo
       (subst (λ (z : ℕ). z ≤ r.phase + 1)
       (sym (get_or-set_other s.words 0 16 new 0 (λ e. absurd (omega arith)))) (let o = r.over in
       omega arith))
+      (inl (get_or-set_other s.words 0 17 new 0 (λ e. absurd (omega arith)) ∙ not_shut events registered count width newest replies ready s r (let z = f.1 in omega arith)))
       (inl (set_home events registered count width newest replies ready (word0 s) r.value y s.homes r.home, omega arith))
       ((kept.0, (let q = (r.each id v at).0.1 in omega arith)), mine.0)
       (λ i h other e. (others i h other e).0)
@@ -463,10 +528,19 @@ module _ {S : Type 0} (events : S → List Event) (registered : ℕ → S → Bo
         ),
       )
 
-  pub raises : (slots id : ℕ) (me : Mine) (new : ℕ) → me.0.role ≡ Stands → new ≡ me.0.phase
+  pub ends : (slots id : ℕ) (me : Mine) (x z y : S) (found : List ℕ) (new : ℕ) → me.0.role ≡ Last x found → me.1 ≡ (0, y) ∷ []
+      → new ≡ count y → AllTold events registered count width ready found x z → ready (me.0.phase + 1) z
+      → IsKept events registered count width z y → ready (me.0.phase + 1) y
+      → AreFolds events registered replies ready (width z) found z → width z ≤ 4
+      → Allows Board slots id me 0 (λ _. new)
+      (λ _. ended events registered width newest replies ready (step slots 0 new 0 none) me new)
+  ends slots id me x z y found new last carried is_count round_z ready_z kept is_ready folds few s r sized at small = ⊎_elim (λ (u : IsUnopened s). absurd (not_unopened s id me.0 (is_in me.0 (Last x found) last tt) at u))
+      (λ (k : Rule s). let m = ends_open slots id me x z y found new last carried is_count round_z ready_z kept is_ready folds few s k sized at small in (m.0, m.1, m.2, inr m.3, m.4)) r
+
+  raises_open : (slots id : ℕ) (me : Mine) (new : ℕ) → me.0.role ≡ Stands → new ≡ me.0.phase
       → Allows Rule slots id me 16 (λ _. new)
       (λ _. raised events registered width newest replies ready (step slots 16 new 0 none) me new)
-  raises slots id me new stands is s r _ at _ =
+  raises_open slots id me new stands is s r _ at _ =
       let v : H = me.0 in
       let level = fits_as events registered count width newest replies ready s r id v Stands at stands in
       let ws : List ℕ = set s.words 16 new in
@@ -483,6 +557,7 @@ module _ {S : Type 0} (events : S → List Event) (registered : ℕ → S → Bo
             (same ∙ r.word ∙ ap (λ (vs : List H). total (missing r.phase) vs + (if r.held then busy else 0))
             (sym (set_again s.views id v at)))
             (let l = level.1 in omega arith)
+            (shut_beside events registered count width newest replies ready s r 16 new id v v at (no_keeper v v (Stands) stands refl) (λ e. absurd (omega arith)))
             (subst (λ (z : ℕ). House z r.value s.homes) (sym same) r.home)
             (fit id v at) (λ i h other e. fit i h e) r.stands
             (let k = r.rows.each id v at in rows_on (width r.value) s.words 16 new s.views id v (omega arith) r.rows k.0
@@ -495,10 +570,16 @@ module _ {S : Type 0} (events : S → List Event) (registered : ℕ → S → Bo
         refl,
       )
 
-  pub raises_late : (slots id : ℕ) (me : Mine) (new : ℕ) → me.0.role ≡ Gone → new ≡ me.0.phase
+  pub raises : (slots id : ℕ) (me : Mine) (new : ℕ) → me.0.role ≡ Stands → 0 < length me.0.tasks → new ≡ me.0.phase
+      → Allows Board slots id me 16 (λ _. new)
+      (λ _. raised events registered width newest replies ready (step slots 16 new 0 none) me new)
+  raises slots id me new stands some_task is s r sized at small = ⊎_elim (λ (u : IsUnopened s). absurd (not_unopened s id me.0 (is_in me.0 Stands stands some_task) at u))
+      (λ (k : Rule s). let m = raises_open slots id me new stands is s k sized at small in (m.0, m.1, m.2, inr m.3, m.4)) r
+
+  raises_late_open : (slots id : ℕ) (me : Mine) (new : ℕ) → me.0.role ≡ Gone → new ≡ me.0.phase
       → Allows Rule slots id me 16 (λ n. max n new)
       (raised events registered width newest replies ready (step slots 16 new 0 none) me)
-  raises_late slots id me new gone is s r _ at _ =
+  raises_late_open slots id me new gone is s r _ at _ =
       let v : H = me.0 in
       let f = fits_as events registered count width newest replies ready s r id v Gone at gone in
       let o = r.over in
@@ -519,6 +600,7 @@ module _ {S : Type 0} (events : S → List Event) (registered : ℕ → S → Bo
             (same ∙ r.word ∙ ap (λ (vs : List H). total (missing r.phase) vs + (if r.held then busy else 0))
             (sym (set_again s.views id v at)))
             (subst (λ (z : ℕ). z ≤ r.phase) (sym now) low)
+            (shut_beside events registered count width newest replies ready s r 16 new' id v v at (no_keeper v v (Gone) gone refl) (λ e. absurd (omega arith)))
             (subst (λ (z : ℕ). House z r.value s.homes) (sym same) r.home)
             (fit id v at) (λ i h other e. fit i h e) r.stands
             (let k = r.rows.each id v at in rows_on (width r.value) s.words 16 new' s.views id v (omega arith) r.rows k.0
@@ -530,3 +612,9 @@ module _ {S : Type 0} (events : S → List Event) (registered : ℕ → S → Bo
             (r.begins.each id v at))),
         refl,
       )
+
+  pub raises_late : (slots id : ℕ) (me : Mine) (new : ℕ) → me.0.role ≡ Gone → new ≡ me.0.phase
+      → Allows Board slots id me 16 (λ n. max n new)
+      (raised events registered width newest replies ready (step slots 16 new 0 none) me)
+  raises_late slots id me new gone is s r sized at small = ⊎_elim (λ (u : IsUnopened s). absurd (not_unopened s id me.0 (is_in me.0 Gone gone tt) at u))
+      (λ (k : Rule s). let m = raises_late_open slots id me new gone is s k sized at small in (m.0, m.1, m.2, inr m.3, m.4)) r

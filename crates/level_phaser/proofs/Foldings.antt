@@ -1,5 +1,5 @@
 -- The last writes a fold, and who stands reads it: both keep the rule of the table.
-use Rattle.std.proofs.Common.{◌*◌, ◌≡◌, ◌≢◌, ⊎_elim, ℕ, ℤ, ◌+◌, ◌<◌, ◌≤◌, List, [], ◌∷◌, Bool, true, length, Some, Ok, get_or, set, sym, refl, ap, ◌∙◌, subst, arith, length-set, get_or-set_other, get_or-set_same, if◌then◌else◌}
+use Rattle.std.proofs.Common.{◌*◌, ◌≡◌, ◌≢◌, ⊎_elim, ℕ, ℤ, ◌+◌, ◌<◌, ◌≤◌, List, [], ◌∷◌, Bool, true, length, Some, Ok, get_or, set, sym, refl, ap, ◌∙◌, subst, arith, length-set, get_or-set_other, get_or-set_same, if◌then◌else◌, inr}
 use mathlib.Core.Logic.{dite}
 use mathlib.Core.Option.{Option, some, none}
 use native.Mathlib.Decide.{ℕ_discrete}
@@ -16,7 +16,7 @@ use Rattle.phase_model.specs.declared.call.Call.{Call}
 use Rattle.phase_model.specs.declared.op.Look.{Look}
 use Rattle.phase_model.specs.Replies.{Reply}
 use Rattle.level_phaser.specs.Views.{with_role}
-use Rattle.level_phaser.specs.inner.Board.{busy, sent_in, missing, IsFound, FitsIn, Fits, Homes, IsLevel}
+use Rattle.level_phaser.specs.inner.Board.{busy, sent_in, missing, IsFound, FitsIn, Fits, Homes, IsLevel, IsUnopened, IsBoard}
 use Rattle.level_phaser.specs.inner.Folds.{fold_in, IsNoted, AreFresh, Began}
 use Rattle.phase_model.specs.declared.call.Call.TheVariants.{Look as look}
 use Rattle.phase_model.specs.Answers.{look_result}
@@ -28,7 +28,7 @@ use Rattle.level_phaser.specs.inner.Plays.{folded, fetched}
 use Rattle.level_phaser.proofs.Rows.{beside, rows_on}
 use Rattle.level_phaser.proofs.Begins.{tail_over}
 use Rattle.level_phaser.proofs.Totals.{total_set, total_at}
-use Rattle.level_phaser.proofs.Keeps.{tail_same, after, fits_as, missing_as, unmoved}
+use Rattle.level_phaser.proofs.Keeps.{IsIn, is_in, not_unopened, no_keeper, shut_beside, tail_same, after, fits_as, missing_as, unmoved}
 
 module _ {S : Type 0} (events : S → List Event) (registered : ℕ → S → Bool) (count : S → ℕ) (width : S → ℕ)
     (newest : S → ℕ) (replies : S → Call → Reply) (ready : ℕ → S → Type 0) where
@@ -40,6 +40,9 @@ module _ {S : Type 0} (events : S → List Event) (registered : ℕ → S → Bo
 
   abbrev Rule : State S H → Type 0
   Rule = IsLevel events registered count width replies ready
+
+  abbrev Board : State S (SeatView S) → Type 0
+  Board = IsBoard events registered count width replies ready
 
   abbrev Fit : (ℕ → ℕ) → ℕ → ℕ → S → ℕ → ℕ → H → Type 0
   Fit = Fits events registered count width ready
@@ -83,12 +86,12 @@ module _ {S : Type 0} (events : S → List Event) (registered : ℕ → S → Bo
   set_found i n (Last x ws) = Last x (set ws i n)
   set_found i n role = role
 
-  pub folds : (slots id a : ℕ) (me : Mine) (x : S) (found : List ℕ) (new : ℕ) → a < 4 → me.0.role ≡ Last x found
+  folds_open : (slots id a : ℕ) (me : Mine) (x : S) (found : List ℕ) (new : ℕ) → a < 4 → me.0.role ≡ Last x found
       → length found ≡ 2080
       → Allows Rule slots id me (24 + a) (λ _. new)
       (λ _. folded events registered width newest replies ready (step slots (24 + a) new 0 none) me new)
   unfolding set_found
-  folds slots id a me x found new few last long s r _ at _ =
+  folds_open slots id a me x found new few last long s r _ at _ =
       let v : H = me.0 in
       let f = fits_as events registered count width newest replies ready s r id v (Last x found) at last in
       let w : H = with_role v (Last x (set found (24 + a) new)) in
@@ -114,6 +117,7 @@ module _ {S : Type 0} (events : S → List Event) (registered : ℕ → S → Bo
             r.held at (length-set s.words (24 + a) new ∙ r.wide) (ap (λ (z : ℕ). z + length v.tasks) r.parts) r.small
             (same0 ∙ word ∙ ap (λ (z : ℕ). z + (if r.held then busy else 0)) (omega arith))
             (subst (λ (z : ℕ). z ≤ r.phase) (sym same16) r.over)
+            (shut_beside events registered count width newest replies ready s r (24 + a) new id v w at (no_keeper v w ((Last x found)) last refl) (λ e. absurd (omega arith)))
             (subst (λ (z : ℕ). House z r.value s.homes) (sym same0) r.home)
             ((r.each id v at).0, (f.0, same0 ∙ f.1, f.2, f.3, f.4))
             (λ i h other e. subst (λ (z : ℕ). Fit r.seat r.phase z r.value r.holder i h) (sym same0) (r.each i h e))
@@ -142,9 +146,16 @@ module _ {S : Type 0} (events : S → List Event) (registered : ℕ → S → Bo
             λ j. (with_role v (set_found (24 + a) new (same j)), me.1),
       )
 
-  pub fetches : (slots id a : ℕ) (me : Mine) → Allows Rule slots id me (24 + a) (λ x. x)
+  pub folds : (slots id a : ℕ) (me : Mine) (x : S) (found : List ℕ) (new : ℕ) → a < 4 → me.0.role ≡ Last x found
+      → length found ≡ 2080
+      → Allows Board slots id me (24 + a) (λ _. new)
+      (λ _. folded events registered width newest replies ready (step slots (24 + a) new 0 none) me new)
+  folds slots id a me x found new few last long s r sized at small = ⊎_elim (λ (u : IsUnopened s). absurd (not_unopened s id me.0 (is_in me.0 (Last x found) last tt) at u))
+      (λ (k : Rule s). let m = folds_open slots id a me x found new few last long s k sized at small in (m.0, m.1, m.2, inr m.3, m.4)) r
+
+  fetches_open : (slots id a : ℕ) (me : Mine) → Allows Rule slots id me (24 + a) (λ x. x)
       (fetched events registered width newest replies ready (step slots (24 + a) 0 0 none) me)
-  fetches slots id a me s r _ at _ = (
+  fetches_open slots id a me s r _ at _ = (
     me.0,
     keeps,
     tt,
@@ -171,6 +182,11 @@ module _ {S : Type 0} (events : S → List Event) (registered : ℕ → S → Bo
           (k.0, tail_over v.seen (events b.begun) (events k.0) fresh.1 k.1, k.2 t fresh.0),
     ),
   )
+
+  pub fetches : (slots id a : ℕ) (me : Mine) → IsIn me.0 → Allows Board slots id me (24 + a) (λ x. x)
+      (fetched events registered width newest replies ready (step slots (24 + a) 0 0 none) me)
+  fetches slots id a me inside s r sized at small = ⊎_elim (λ (u : IsUnopened s). absurd (not_unopened s id me.0 inside at u))
+      (λ (k : Rule s). let m = fetches_open slots id a me s k sized at small in (m.0, m.1, m.2, inr m.3, m.4)) r
 
   pub kept_same : (x : S) → IsKept events registered count width x x
   kept_same x = (tail_same (events x), refl, (λ task live. (live, refl)), refl)

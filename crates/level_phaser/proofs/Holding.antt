@@ -17,7 +17,7 @@ use Rattle.told_history.specs.Tails.{IsTail}
 use Rattle.level_phaser.specs.Deeds.{deeds, deeds_of}
 use Rattle.level_phaser.specs.Changes.{IsJoined, IsSent, IsLeft, IsKept}
 use Rattle.level_phaser.specs.Views.{seated, signalled, known_by, view_of, with_role, with_seen, without_tasks}
-use Rattle.level_phaser.specs.inner.Board.{busy, total, missing, Each, FitsIn, Fits, Homes, IsLevel}
+use Rattle.level_phaser.specs.inner.Board.{busy, total, missing, Each, FitsIn, Fits, Homes, IsLevel, IsUnopened, IsBoard}
 use Rattle.level_phaser.specs.inner.Plays.{claimed, joined, left, released, shown}
 use Rattle.level_phaser.specs.inner.Board.{sent_in, IsFound, Shown, Rows}
 use Rattle.level_phaser.proofs.Rows.{beside, beyond_last, shown_known, rows_on}
@@ -25,7 +25,7 @@ use Rattle.std.proofs.lemmas.Bool.{false≢true}
 use Rattle.level_phaser.specs.inner.Folds.{Began}
 use Rattle.level_phaser.proofs.Begins.{below_folds, begins_on, known_fresh}
 use Rattle.level_phaser.proofs.Totals.{total_set, total_at}
-use Rattle.level_phaser.proofs.Keeps.{tail_on, tail_same, put, put_here, put_else, after, fits_as, missing_as, few, cases, none_holds, at_home, unmoved, are_seated, set_home, each_moves}
+use Rattle.level_phaser.proofs.Keeps.{is_in, not_unopened, tail_on, tail_same, put, put_here, put_else, after, fits_as, missing_as, few, cases, none_holds, at_home, unmoved, are_seated, set_home, each_moves, no_keeper, some_tasks, shut_beside}
 
 module _ {S : Type 0} (events : S → List Event) (registered : ℕ → S → Bool) (count : S → ℕ) (width : S → ℕ) (newest : S → ℕ) (replies : S → Call → Reply)
     (ready : ℕ → S → Type 0) where
@@ -40,6 +40,9 @@ module _ {S : Type 0} (events : S → List Event) (registered : ℕ → S → Bo
 
   abbrev Rule : St → Type 0
   Rule = IsLevel events registered count width replies ready
+
+  abbrev Board : State S (SeatView S) → Type 0
+  Board = IsBoard events registered count width replies ready
 
   abbrev Ok : (ℕ → ℕ) → S → ℕ → List SeatedTask → Type 0
   Ok = Each events registered count width ready
@@ -56,11 +59,11 @@ module _ {S : Type 0} (events : S → List Event) (registered : ℕ → S → Bo
   abbrev word0 : St → ℕ
   word0 s = get_or s.words 0 0
 
-  pub claims : (slots id : ℕ) (me : Mine) (old new : ℕ) → 0 < old → old < busy → new ≡ old + busy
+  claims_open : (slots id : ℕ) (me : Mine) (old new : ℕ) → 0 < old → old < busy → new ≡ old + busy
       → me.0.role ≡ Stands → me.1 ≡ []
       → Allows Rule slots id me 0 (λ x. either (eqb x old) new x)
       (claimed events registered width newest replies ready (step slots 0 old new none) me)
-  claims slots id me old new some_old free_old is_new stands bare s r _ at _ =
+  claims_open slots id me old new some_old free_old is_new stands bare s r _ at _ =
       let x : ℕ = word0 s in
       let v : H = me.0 in
       let level = fits_as events registered count width newest replies ready s r id v Stands at stands in
@@ -86,6 +89,7 @@ module _ {S : Type 0} (events : S → List Event) (registered : ℕ → S → Bo
             (now ∙ omega arith)
             (subst (λ (z : ℕ). z ≤ r.phase)
             (sym (get_or-set_other s.words 0 16 new 0 (λ e. absurd (omega arith)))) r.over)
+            (shut_beside events registered count width newest replies ready s r 0 new id v w at (no_keeper v w (Stands) stands refl) (λ e. absurd (omega arith)))
             (inr (ap (λ hs. set hs 0 none) home, inr (omega arith)))
             ((r.each id v at).0, (level.1, omega arith, refl, refl, level.2))
             (λ i h other e. let f = r.each i h e in (
@@ -120,6 +124,13 @@ module _ {S : Type 0} (events : S → List Event) (registered : ℕ → S → Bo
         ((λ hit. absurd (miss hit)), λ _. refl),
       ))
 
+  pub claims : (slots id : ℕ) (me : Mine) (old new : ℕ) → 0 < old → old < busy → new ≡ old + busy
+      → me.0.role ≡ Stands → 0 < length me.0.tasks → me.1 ≡ []
+      → Allows Board slots id me 0 (λ x. either (eqb x old) new x)
+      (claimed events registered width newest replies ready (step slots 0 old new none) me)
+  claims slots id me old new some_old free_old is_new stands some_task bare s r sized at small = ⊎_elim (λ (u : IsUnopened s). absurd (not_unopened s id me.0 (is_in me.0 Stands stands some_task) at u))
+      (λ (k : Rule s). let m = claims_open slots id me old new some_old free_old is_new stands bare s k sized at small in (m.0, m.1, m.2, inr m.3, m.4)) r
+
   given_role : (seat seat' : ℕ → ℕ) (role : Role S) (tasks : List SeatedTask) (at phase word word' : ℕ)
       (x y : S) (holder i id : ℕ) → busy ≤ word → i ≢ id → id ≡ holder
       → ((task : ℕ) → seat task ≡ i → registered task x ≡ true → (registered task y ≡ true) × (seat' task ≡ i)
@@ -141,7 +152,7 @@ module _ {S : Type 0} (events : S → List Event) (registered : ℕ → S → Bo
 
   -- the holder's value is y now: what the word and the homes become is the step's
   given : (s : St) (r : Rule s) (id : ℕ) (v w : H) (x y : S) (word : ℕ) (homes : List (Option S))
-      (seat' : ℕ → ℕ) → get_elem? s.views id ≡ some v → v.role ≡ Holder x
+      (seat' : ℕ → ℕ) → get_elem? s.views id ≡ some v → v.role ≡ Holder x → 0 < length v.tasks
       → count y + length v.tasks ≡ count x + length w.tasks → count y < 4294967296
       → word ≡ total (missing r.phase) (set s.views id w) → House word y homes
       → IsTail (events x) (events y) → IsTail w.seen (events y) → w.heard ≡ v.heard
@@ -151,7 +162,7 @@ module _ {S : Type 0} (events : S → List Event) (registered : ℕ → S → Bo
       × (seat' task ≡ i) × (deeds_of task (events y) ≡ deeds_of task (events x)))
       → ready v.phase y → Began events registered replies ready r.begins.begun r.phase (set s.words 0 word) w
       → Rule record { words = set s.words 0 word; homes = homes; views = set s.views id w }
-  given s r id v w x y word homes seat' at holds counts small is_word home longer seen heard shown found wide widths mine moves
+  given s r id v w x y word homes seat' at holds some_of counts small is_word home longer seen heard shown found wide widths mine moves
       is_ready began =
       let f = fits_as events registered count width newest replies ready s r id v (Holder x) at holds in
       let same : x ≡ r.value = f.2 in
@@ -177,6 +188,7 @@ module _ {S : Type 0} (events : S → List Event) (registered : ℕ → S → Bo
       ∙ r.wide) (omega arith) small (now ∙ is_word ∙ omega arith)
       (subst (λ (z : ℕ). z ≤ r.phase) (sym (get_or-set_other s.words 0 16 word 0 (λ e. absurd (omega arith))))
       r.over)
+      (shut_beside events registered count width newest replies ready s r 0 word id v w at (some_tasks v w some_of) (λ e. absurd (omega arith)))
       (subst (λ (z : ℕ). House z y homes) (sym now) home)
       (subst (λ (z : ℕ). Fit seat' r.phase z y r.holder id w) (sym now)
       ((seen, (let q = (r.each id v at).0.1 in omega arith)), mine))
@@ -197,11 +209,11 @@ module _ {S : Type 0} (events : S → List Event) (registered : ℕ → S → Bo
       (λ (t : (busy ≤ word0 s) × (word0 s ≡ total (missing r.phase) s.views + busy) × (r.held ≡ true)). t.1)
       (cases events registered count width newest replies ready s r)
 
-  pub releases : (slots id : ℕ) (me : Mine) (x y : S) → 0 < length me.0.tasks → me.0.role ≡ Holder x
+  releases_open : (slots id : ℕ) (me : Mine) (x y : S) → 0 < length me.0.tasks → me.0.role ≡ Holder x
       → me.1 ≡ (0, y) ∷ [] → IsKept events registered count width x y → ready me.0.phase y
       → Allows Rule slots id me 0 (λ n. (n + (2 ^ 64 - 4611686018427387904)) % 2 ^ 64)
       (released events registered width newest replies ready (step slots 0 4611686018427387904 0 none) me)
-  releases slots id me x y some_task holds carried kept is_ready s r _ at small =
+  releases_open slots id me x y some_task holds carried kept is_ready s r _ at small =
       let v : H = me.0 in
       let f = fits_as events registered count width newest replies ready s r id v (Holder x) at holds in
       let same : x ≡ r.value = f.2 in
@@ -219,7 +231,7 @@ module _ {S : Type 0} (events : S → List Event) (registered : ℕ → S → Bo
         gives,
         tt,
         subst (λ (z : ℕ × List (ℕ × S)). Rule (stepped s 0 z.0 id z.1 w gives)) (λ k. (less k, sym carried k))
-            (given s r id v w x y n (set s.homes 0 (some y)) r.seat at holds
+            (given s r id v w x y n (set s.homes 0 (some y)) r.seat at holds some_task
             (ap (λ (z : ℕ). z + length v.tasks) counts) (omega arith) (omega arith)
             (inl (set_home events registered count width newest replies ready (word0 s) r.value y s.homes r.home, omega arith)) kept.0
             (tail_on v.seen (events x) (events y) (subst (λ (z : S). IsTail v.seen (events z)) (sym same)
@@ -235,12 +247,19 @@ module _ {S : Type 0} (events : S → List Event) (registered : ℕ → S → Bo
         ap (λ l. (w, carried_after l gives)) carried,
       )
 
-  pub shows : (slots id : ℕ) (me : Mine) (c : SeatedTask) (e : Event) (x y : S) → me.0.tasks ≡ c ∷ []
+  pub releases : (slots id : ℕ) (me : Mine) (x y : S) → 0 < length me.0.tasks → me.0.role ≡ Holder x
+      → me.1 ≡ (0, y) ∷ [] → IsKept events registered count width x y → ready me.0.phase y
+      → Allows Board slots id me 0 (λ n. (n + (2 ^ 64 - 4611686018427387904)) % 2 ^ 64)
+      (released events registered width newest replies ready (step slots 0 4611686018427387904 0 none) me)
+  releases slots id me x y some_task holds carried kept is_ready s r sized at small = ⊎_elim (λ (u : IsUnopened s). absurd (not_unopened s id me.0 (is_in me.0 (Holder x) holds tt) at u))
+      (λ (k : Rule s). let m = releases_open slots id me x y some_task holds carried kept is_ready s k sized at small in (m.0, m.1, m.2, inr m.3, m.4)) r
+
+  shows_open : (slots id : ℕ) (me : Mine) (c : SeatedTask) (e : Event) (x y : S) → me.0.tasks ≡ c ∷ []
       → me.0.role ≡ Holder x → me.1 ≡ (0, y) ∷ [] → IsSent events registered count width c.task e x y
       → ready me.0.phase y
       → Allows Rule slots id me 0 (λ n. (n + (2 ^ 64 - 4611686018427387904)) % 2 ^ 64)
       (shown events registered width newest replies ready (step slots 0 4611686018427387904 0 none) me)
-  shows slots id me c e x y one holds carried sent is_ready s r _ at small =
+  shows_open slots id me c e x y one holds carried sent is_ready s r _ at small =
       let v : H = me.0 in
       let f = fits_as events registered count width newest replies ready s r id v (Holder x) at holds in
       let same : x ≡ r.value = f.2 in
@@ -263,7 +282,7 @@ module _ {S : Type 0} (events : S → List Event) (registered : ℕ → S → Bo
         gives,
         tt,
         subst (λ (z : ℕ × List (ℕ × S)). Rule (stepped s 0 z.0 id z.1 w gives)) (λ k. (less k, sym carried k))
-            (given s r id v w x y n (set s.homes 0 (some y)) r.seat at holds (omega arith) (omega arith)
+            (given s r id v w x y n (set s.homes 0 (some y)) r.seat at holds (omega arith) (omega arith) (omega arith)
             (omega arith)
             (inl (set_home events registered count width newest replies ready (word0 s) r.value y s.homes r.home, omega arith)) (e ∷ [], sent.0)
             (tail_same (events y)) refl (shown_known (events y) s.words v.tasks (r.rows.each id v at).0) tt refl
@@ -280,12 +299,20 @@ module _ {S : Type 0} (events : S → List Event) (registered : ℕ → S → Bo
             λ k. (with_seen v (events (yy k)), (ap (λ l. carried_after l gives) carried) k),
       )
 
-  pub joins : (slots id : ℕ) (me : Mine) (x y : S) → 0 < length me.0.tasks → me.0.role ≡ Holder x
+  pub shows : (slots id : ℕ) (me : Mine) (c : SeatedTask) (e : Event) (x y : S) → me.0.tasks ≡ c ∷ []
+      → me.0.role ≡ Holder x → me.1 ≡ (0, y) ∷ [] → IsSent events registered count width c.task e x y
+      → ready me.0.phase y
+      → Allows Board slots id me 0 (λ n. (n + (2 ^ 64 - 4611686018427387904)) % 2 ^ 64)
+      (shown events registered width newest replies ready (step slots 0 4611686018427387904 0 none) me)
+  shows slots id me c e x y one holds carried sent is_ready s r sized at small = ⊎_elim (λ (u : IsUnopened s). absurd (not_unopened s id me.0 (is_in me.0 (Holder x) holds tt) at u))
+      (λ (k : Rule s). let m = shows_open slots id me c e x y one holds carried sent is_ready s k sized at small in (m.0, m.1, m.2, inr m.3, m.4)) r
+
+  joins_open : (slots id : ℕ) (me : Mine) (x y : S) → 0 < length me.0.tasks → me.0.role ≡ Holder x
       → me.1 ≡ (0, y) ∷ [] → IsJoined events registered count width (newest y) me.0.phase x y → count y < 4294967296
       → ready me.0.phase y
       → Allows Rule slots id me 0 (λ n. (n + (2 ^ 64 - 4611686018427387903)) % 2 ^ 64)
       (joined events registered width newest replies ready (step slots 0 4611686018427387903 0 none) me)
-  joins slots id me x y some_task holds carried new few_y is_ready s r _ at small =
+  joins_open slots id me x y some_task holds carried new few_y is_ready s r _ at small =
       let v : H = me.0 in
       let f = fits_as events registered count width newest replies ready s r id v (Holder x) at holds in
       let same : x ≡ r.value = f.2 in
@@ -309,7 +336,7 @@ module _ {S : Type 0} (events : S → List Event) (registered : ℕ → S → Bo
         gives,
         tt,
         subst (λ (z : ℕ × List (ℕ × S)). Rule (stepped s 0 z.0 id z.1 w gives)) (λ k. (less k, sym carried k))
-            (given s r id v w x y (n + 1) (set s.homes 0 (some y)) seat' at holds (omega arith) few_y
+            (given s r id v w x y (n + 1) (set s.homes 0 (some y)) seat' at holds some_task (omega arith) few_y
             (omega arith)
             (inl (set_home events registered count width newest replies ready (word0 s) r.value y s.homes r.home, omega arith)) new.0
             (tail_on v.seen (events x) (events y) (subst (λ (z : S). IsTail v.seen (events z)) (sym same)
@@ -343,12 +370,20 @@ module _ {S : Type 0} (events : S → List Event) (registered : ℕ → S → Bo
       no_such : (task t : ℕ) (z : S) → task ≡ t → registered task z ≡ true → registered t z ≡ false → ⊥
       no_such task t z e a b = true≢false (sym a ∙ ap (λ (k : ℕ). registered k z) e ∙ b)
 
-  pub leaves : (slots id : ℕ) (me : Mine) (c : SeatedTask) (x y : S) → me.0.tasks ≡ c ∷ []
+  pub joins : (slots id : ℕ) (me : Mine) (x y : S) → 0 < length me.0.tasks → me.0.role ≡ Holder x
+      → me.1 ≡ (0, y) ∷ [] → IsJoined events registered count width (newest y) me.0.phase x y → count y < 4294967296
+      → ready me.0.phase y
+      → Allows Board slots id me 0 (λ n. (n + (2 ^ 64 - 4611686018427387903)) % 2 ^ 64)
+      (joined events registered width newest replies ready (step slots 0 4611686018427387903 0 none) me)
+  joins slots id me x y some_task holds carried new few_y is_ready s r sized at small = ⊎_elim (λ (u : IsUnopened s). absurd (not_unopened s id me.0 (is_in me.0 (Holder x) holds tt) at u))
+      (λ (k : Rule s). let m = joins_open slots id me x y some_task holds carried new few_y is_ready s k sized at small in (m.0, m.1, m.2, inr m.3, m.4)) r
+
+  leaves_open : (slots id : ℕ) (me : Mine) (c : SeatedTask) (x y : S) → me.0.tasks ≡ c ∷ []
       → me.0.role ≡ Holder x → me.1 ≡ (0, y) ∷ [] → IsLeft events registered count width c.task x y
       → ready me.0.phase y
       → Allows Rule slots id me 0 (λ n. (n + (2 ^ 64 - 4611686018427387905)) % 2 ^ 64)
       (left events registered width newest replies ready (step slots 0 4611686018427387905 0 none) me)
-  leaves slots id me c x y one holds carried gone is_ready s r _ at small =
+  leaves_open slots id me c x y one holds carried gone is_ready s r _ at small =
       let v : H = me.0 in
       let f = fits_as events registered count width newest replies ready s r id v (Holder x) at holds in
       let same : x ≡ r.value = f.2 in
@@ -383,7 +418,7 @@ module _ {S : Type 0} (events : S → List Event) (registered : ℕ → S → Bo
         keeps,
         tt,
         subst (λ (z : ℕ). Rule (stepped s 0 z id me.1 w keeps)) less
-            (given s r id v w x y (n - 1) s.homes r.seat at holds (omega arith) (omega arith) (omega arith)
+            (given s r id v w x y (n - 1) s.homes r.seat at holds (omega arith) (omega arith) (omega arith) (omega arith)
             (inr (out, inl (omega arith))) gone.0 seen refl tt (beside s.words 0 (n - 1) (omega arith)) refl gone.4
             (f.0, omega arith, refl, f.3, tt) moves is_ready
             (tt, tt, below_folds s.words 0 (n - 1) (omega arith))),
@@ -400,7 +435,7 @@ module _ {S : Type 0} (events : S → List Event) (registered : ℕ → S → Bo
         gives,
         tt,
         subst (λ (z : ℕ × List (ℕ × S)). Rule (stepped s 0 z.0 id z.1 w gives)) (λ k. (less k, sym carried k))
-            (given s r id v w x y (n - 1) (set s.homes 0 (some y)) r.seat at holds (omega arith) (omega arith)
+            (given s r id v w x y (n - 1) (set s.homes 0 (some y)) r.seat at holds (omega arith) (omega arith) (omega arith)
             (omega arith)
             (inl (set_home events registered count width newest replies ready (word0 s) r.value y s.homes r.home, omega arith)) gone.0 seen refl tt tt refl
             gone.4
@@ -411,3 +446,11 @@ module _ {S : Type 0} (events : S → List Event) (registered : ℕ → S → Bo
               λ k. (without_tasks v Gone (events (yy k)), (ap (λ l. carried_after l gives) carried) k),
         ),
       ))
+
+  pub leaves : (slots id : ℕ) (me : Mine) (c : SeatedTask) (x y : S) → me.0.tasks ≡ c ∷ []
+      → me.0.role ≡ Holder x → me.1 ≡ (0, y) ∷ [] → IsLeft events registered count width c.task x y
+      → ready me.0.phase y
+      → Allows Board slots id me 0 (λ n. (n + (2 ^ 64 - 4611686018427387905)) % 2 ^ 64)
+      (left events registered width newest replies ready (step slots 0 4611686018427387905 0 none) me)
+  leaves slots id me c x y one holds carried gone is_ready s r sized at small = ⊎_elim (λ (u : IsUnopened s). absurd (not_unopened s id me.0 (is_in me.0 (Holder x) holds tt) at u))
+      (λ (k : Rule s). let m = leaves_open slots id me c x y one holds carried gone is_ready s k sized at small in (m.0, m.1, m.2, inr m.3, m.4)) r

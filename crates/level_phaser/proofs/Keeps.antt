@@ -1,11 +1,12 @@
 -- What each step that keeps the rule of the table is shown by.
-use Rattle.std.proofs.Common.{◌≡◌, ◌≢◌, ◌⊎◌, ⊎_elim, inl, inr, ℕ, ◌+◌, ◌<◌, ◌≤◌, eqb, List, [], ◌∷◌, ◌++◌, Bool, true, false, length, get_or, set, sym, refl, ap, ◌∙◌, subst, arith, append_assoc, if◌then◌else◌}
-use mathlib.Core.Option.{Option, some, none}
+use Rattle.std.proofs.Common.{◌≡◌, ◌≢◌, ◌⊎◌, ⊎_elim, inl, inr, ℕ, zero, suc, ◌+◌, ◌<◌, ◌≤◌, eqb, List, [], ◌∷◌, ◌++◌, Bool, true, false, length, get_or, get_or-set_other, set, sym, refl, ap, ◌∙◌, subst, arith, append_assoc, if◌then◌else◌}
+use mathlib.Core.Logic.{dite}
+use mathlib.Core.Option.{Option, some, none, some-injective, some-ne-none}
 use native.Mathlib.Decide.{ℕ_discrete}
 use lib.ListN.{get_elem?}
 use lib.Seq.{set-get_or}
 use Rattle.atomic_table.specs.Table.{State, Me}
-use Rattle.atomic_table.proofs.Lists.{at_set, set_again}
+use Rattle.atomic_table.proofs.Lists.{at_set, set_again, set_else}
 use Rattle.level_phaser.specs.declared.view.SeatView.{SeatView}
 use Rattle.level_phaser.specs.declared.view.SeatedTask.{SeatedTask}
 use Rattle.level_phaser.specs.declared.view.Role.{Role}
@@ -17,7 +18,9 @@ use Rattle.told_history.specs.Tails.{IsTail}
 use Rattle.level_phaser.specs.Deeds.{deeds_of}
 use Rattle.level_phaser.specs.Seen.{AreSeated}
 use Rattle.level_phaser.specs.inner.Board.{busy, total, parts_of, missing_in, missing, Each, FitsIn, Fits, Homes, IsLevel}
-use Rattle.level_phaser.specs.inner.Board.{Rows}
+use Rattle.level_phaser.specs.inner.Board.{Rows, IsShut, IsUnopened}
+use Rattle.level_phaser.specs.Views.{idle_view, opening_view}
+use Rattle.std.proofs.lemmas.Bool.{false≢true}
 use Rattle.level_phaser.specs.inner.Folds.{Begins}
 use Rattle.level_phaser.proofs.Totals.{total_set}
 
@@ -34,6 +37,11 @@ total_le f g (x ∷ xs) less = let a = less x in let b = total_le f g xs less in
 pub if_le : (b : Bool) (n : ℕ) → (if b then 0 else n) ≤ n
 if_le true n = omega arith
 if_le false n = omega arith
+
+pub set_same : {A : Type 0} (l : List A) (i : ℕ) (a b : A) → get_elem? l i ≡ some a → get_elem? (set l i b) i ≡ some b
+set_same [] i a b e = absurd (some-ne-none a (sym e))
+set_same (x ∷ xs) zero a b e = refl
+set_same (x ∷ xs) (suc i) a b e = set_same xs i a b e
 
 -- the two cases of a word
 pub split_word : (held : Bool) (word n : ℕ) → word ≡ n + (if held then busy else 0) → n < 4294967296
@@ -63,6 +71,80 @@ put_else f i c j other = go (ℕ_discrete j i)
     go : (d : Dec (j ≡ i)) → pick d c (f j) ≡ f j
     go (yes e) = absurd (other e)
     go (no _) = refl
+
+module _ {S : Type 0} where
+  abbrev pub is_holder : Role S → Bool
+  is_holder Stands = false
+  is_holder Came = false
+  is_holder (Last x ws) = false
+  is_holder (Holder x) = true
+  is_holder Gone = false
+
+  -- if the seat is that of who has closed the table, it stays so
+  abbrev pub StaysKeeper : SeatView S → SeatView S → Type 0
+  StaysKeeper v w = (x : S) → v.role ≡ Holder x → v.tasks ≡ [] → (w.role ≡ Holder x) × (w.tasks ≡ [])
+
+  pub no_keeper : (v w : SeatView S) (role : Role S) → v.role ≡ role → is_holder role ≡ false → StaysKeeper v w
+  no_keeper v w role is other x e none_of = absurd (false≢true (sym other ∙ ap is_holder (sym is ∙ e)))
+
+  pub some_tasks : (v w : SeatView S) → 0 < length v.tasks → StaysKeeper v w
+  some_tasks v w some_of x e none_of = absurd (let n : length v.tasks ≡ 0 = ap length none_of in omega arith)
+
+  -- a seat in this role is there once the table is open
+  abbrev pub IsInRole : Role S → ℕ → Type 0
+  IsInRole Stands parts = 0 < parts
+  IsInRole Came parts = 0 < parts
+  IsInRole (Last x ws) parts = Unit {0}
+  IsInRole (Holder x) parts = Unit {0}
+  IsInRole Gone parts = Unit {0}
+
+  abbrev pub IsIn : SeatView S → Type 0
+  IsIn v = IsInRole v.role (length v.tasks)
+
+  pub is_in : (v : SeatView S) (role : Role S) → v.role ≡ role → IsInRole role (length v.tasks) → IsIn v
+  is_in v role is k = subst (λ (z : Role S). IsInRole z (length v.tasks)) (sym is) k
+
+  alone : (views : List (SeatView S)) (u v : SeatView S) (id : ℕ) → views ≡ u ∷ [] → get_elem? views id ≡ some v → v ≡ u
+  alone views u v zero is at = some-injective v u (sym at ∙ ap (λ vs. get_elem? vs 0) is)
+  alone views u v (suc i) is at = absurd (some-ne-none v (sym at ∙ ap (λ vs. get_elem? vs (suc i)) is))
+
+  -- so the table is open
+  pub not_unopened : (s : State S (SeatView S)) (id : ℕ) (v : SeatView S) → IsIn v → get_elem? s.views id ≡ some v
+      → IsUnopened s → ⊥
+  not_unopened s id v inside at u = ⊎_elim
+      (λ (t : (x : S) × (s.homes ≡ some x ∷ []) × (s.views ≡ idle_view ∷ [])).
+      (let k = subst (λ (z : SeatView S). IsIn z) (alone s.views idle_view v id t.2 at) inside in omega arith))
+      (λ (t : (s.homes ≡ none ∷ []) × (s.views ≡ opening_view ∷ [])).
+      (let k = subst (λ (z : SeatView S). IsIn z) (alone s.views opening_view v id t.1 at) inside in omega arith)) u.2
+
+  -- who has closed the table has its seat while others make steps
+  pub shut_on : (word word' phase : ℕ) (views : List (SeatView S)) (id : ℕ) (v w : SeatView S)
+      → get_elem? views id ≡ some v → StaysKeeper v w → word' ≡ word → IsShut word phase views
+      → IsShut word' phase (set views id w)
+  shut_on word word' phase views id v w at stays same shut = ⊎_elim
+      (λ (z : word ≡ 0). inl (same ∙ z))
+      (λ (t : (word ≡ phase + 1) × (i : ℕ) × (u : SeatView S) × (x : S) × (get_elem? views i ≡ some u)
+      × (u.role ≡ Holder x) × (u.tasks ≡ [])).
+      dite (ℕ_discrete t.1 id)
+      (λ (here : t.1 ≡ id). (let one : t.2 ≡ v = some-injective t.2 v (sym t.4 ∙ ap (get_elem? views) here ∙ at) in
+      let k = stays t.3 (ap (λ (h : SeatView S). h.role) (sym one) ∙ t.5)
+      (ap (λ (h : SeatView S). h.tasks) (sym one) ∙ t.6) in
+      inr (same ∙ t.0, id, w, t.3, set_same views id v w at, k.0, k.1)))
+      (λ (there : t.1 ≢ id).
+      inr (same ∙ t.0, t.1, t.2, t.3, set_else views id t.1 w there ∙ t.4, t.5, t.6))) shut
+
+  there_snoc : (views : List (SeatView S)) (n : SeatView S) (i : ℕ) (v : SeatView S) → get_elem? views i ≡ some v
+      → get_elem? (views ++ n ∷ []) i ≡ some v
+  there_snoc [] n i v e = absurd (some-ne-none v (sym e))
+  there_snoc (h ∷ hs) n zero v e = e
+  there_snoc (h ∷ hs) n (suc i) v e = there_snoc hs n i v e
+
+  pub shut_snoc : (word phase : ℕ) (views : List (SeatView S)) (n : SeatView S) → IsShut word phase views
+      → IsShut word phase (views ++ n ∷ [])
+  shut_snoc word phase views n shut = ⊎_elim (λ (z : word ≡ 0). inl z)
+      (λ (t : (word ≡ phase + 1) × (i : ℕ) × (u : SeatView S) × (x : S) × (get_elem? views i ≡ some u)
+      × (u.role ≡ Holder x) × (u.tasks ≡ [])).
+      inr (t.0, t.1, t.2, t.3, there_snoc views n t.1 t.2 t.4, t.5, t.6)) shut
 
 module _ {S : Type 0} (events : S → List Event) (registered : ℕ → S → Bool) (count : S → ℕ) (width : S → ℕ) (newest : S → ℕ) (replies : S → Call → Reply)
     (ready : ℕ → S → Type 0) where
@@ -100,6 +182,7 @@ module _ {S : Type 0} (events : S → List Event) (registered : ℕ → S → Bo
       → count value < 4294967296
       → get_or words 0 0 ≡ total (missing phase) (set s.views id w) + (if held then busy else 0)
       → get_or words 16 0 ≤ phase
+      → IsShut (get_or words 17 0) phase (set s.views id w)
       → House (get_or words 0 0) value homes
       → Fit seat phase (get_or words 0 0) value holder id w
       → ((i : ℕ) (h : H) → i ≢ id → get_elem? s.views i ≡ some h
@@ -107,7 +190,7 @@ module _ {S : Type 0} (events : S → List Event) (registered : ℕ → S → Bo
       → ready phase value → Rows (width value) words (set s.views id w)
       → Begins events registered replies ready width phase words (set s.views id w) value
       → Rule record { words = words; homes = homes; views = set s.views id w }
-  after s r words homes id v w phase value holder seat held at wide parts small word over home mine others
+  after s r words homes id v w phase value holder seat held at wide parts small word over shut home mine others
       stands rows begins = record {
         phase = phase;
         value = value;
@@ -120,6 +203,7 @@ module _ {S : Type 0} (events : S → List Event) (registered : ℕ → S → Bo
         small = small;
         word = word;
         over = over;
+        shut = shut;
         home = home;
         each =
             λ i h e. ⊎_elim
@@ -207,3 +291,23 @@ module _ {S : Type 0} (events : S → List Event) (registered : ℕ → S → Bo
   each_moves seat seat' x y i [] moves e = tt
   each_moves seat seat' x y i (c ∷ cs) moves e = let t = moves c.task e.1 e.0 in
       (t.0, t.1, t.2 ∙ e.2, each_moves seat seat' x y i cs moves e.3)
+
+  -- nobody has closed the table while nobody holds the value out of turn
+  pub not_shut : (s : St) (r : Rule s) → word0 s < busy → get_or s.words 17 0 ≡ 0
+  not_shut s r free = ⊎_elim (λ (z : get_or s.words 17 0 ≡ 0). z)
+      (λ (t : (get_or s.words 17 0 ≡ r.phase + 1) × (i : ℕ) × (u : H) × (x : S) × (get_elem? s.views i ≡ some u)
+      × (u.role ≡ Holder x) × (u.tasks ≡ [])).
+      absurd (let f = fits_as s r t.1 t.2 (Holder t.3) t.4 t.5 in let q = f.1 in omega arith)) r.shut
+
+  -- a step at another word keeps that of who closes
+  pub shut_beside : (s : St) (r : Rule s) (i n id : ℕ) (v w : H) → get_elem? s.views id ≡ some v → StaysKeeper v w
+      → 17 ≢ i → IsShut (get_or (set s.words i n) 17 0) r.phase (set s.views id w)
+  shut_beside s r i n id v w at stays other =
+      shut_on (get_or s.words 17 0) (get_or (set s.words i n) 17 0) r.phase s.views id v w at stays
+      (get_or-set_other s.words i 17 n 0 other) r.shut
+
+  -- and so does one at none
+  pub shut_here : (s : St) (r : Rule s) (id : ℕ) (v w : H) → get_elem? s.views id ≡ some v → StaysKeeper v w
+      → IsShut (get_or s.words 17 0) r.phase (set s.views id w)
+  shut_here s r id v w at stays =
+      shut_on (get_or s.words 17 0) (get_or s.words 17 0) r.phase s.views id v w at stays refl r.shut

@@ -5,6 +5,7 @@ mod Foldings
 mod Holding
 mod Joins
 mod Keeps
+mod Keeping
 mod Leaves
 pub mod LevelRounds
 pub mod LevelTasks
@@ -18,4 +19,5 @@ mod Sends
 mod Stages
 mod Tellings
 mod Totals
+mod Trades
 mod Turned

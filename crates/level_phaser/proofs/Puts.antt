@@ -1,5 +1,5 @@
 -- A row's own task writes it, and the last reads it: both keep the rule of the table.
-use Rattle.std.proofs.Common.{◌*◌, ◌≡◌, ◌≢◌, ⊎_elim, ℕ, zero, suc, ◌+◌, ◌<◌, ◌≤◌, List, [], ◌∷◌, Bool, length, get_or, set, sym, refl, ap, ◌∙◌, subst, arith, length-set, get_or-set_other, get_or-set_same, if◌then◌else◌}
+use Rattle.std.proofs.Common.{◌*◌, ◌≡◌, ◌≢◌, ⊎_elim, ℕ, zero, suc, ◌+◌, ◌<◌, ◌≤◌, List, [], ◌∷◌, Bool, length, get_or, set, sym, refl, ap, ◌∙◌, subst, arith, length-set, get_or-set_other, get_or-set_same, if◌then◌else◌, inr}
 use mathlib.Core.Logic.{dite}
 use mathlib.Core.Option.{Option, some, none}
 use native.Mathlib.Decide.{ℕ_discrete}
@@ -15,11 +15,11 @@ use Rattle.phase_model.specs.declared.history.Event.{Event}
 use Rattle.phase_model.specs.declared.call.Call.{Call}
 use Rattle.phase_model.specs.Replies.{Reply}
 use Rattle.level_phaser.specs.Views.{seated_as, signalled, showing, with_pending}
-use Rattle.level_phaser.specs.inner.Board.{busy, missing, sent_in, accumulator_in, IsSound, Shown, IsFound, Knows, Each, FitsIn, Fits, Homes, IsLevel}
+use Rattle.level_phaser.specs.inner.Board.{busy, missing, sent_in, accumulator_in, IsSound, Shown, IsFound, Knows, Each, FitsIn, Fits, Homes, IsLevel, IsUnopened, IsBoard}
 use Rattle.level_phaser.specs.inner.Plays.{showed, found}
 use Rattle.level_phaser.proofs.Totals.{total_set, total_at}
 use Rattle.level_phaser.proofs.Begins.{above_folds, begins_on, began_standing, showing_fresh}
-use Rattle.level_phaser.proofs.Keeps.{tail_same, after, fits_as, missing_as, unmoved}
+use Rattle.level_phaser.proofs.Keeps.{IsIn, is_in, not_unopened, no_keeper, shut_beside, tail_same, after, fits_as, missing_as, unmoved}
 
 pub sound_more : (a b n : ℕ) → a ≤ b → IsSound a n → IsSound b n
 sound_more a b zero most k = tt
@@ -66,6 +66,9 @@ module _ {S : Type 0} (events : S → List Event) (registered : ℕ → S → Bo
 
   abbrev Rule : St → Type 0
   Rule = IsLevel events registered count width replies ready
+
+  abbrev Board : State S (SeatView S) → Type 0
+  Board = IsBoard events registered count width replies ready
 
   abbrev Ok : (ℕ → ℕ) → S → ℕ → List SeatedTask → Type 0
   Ok = Each events registered count width ready
@@ -115,11 +118,11 @@ module _ {S : Type 0} (events : S → List Event) (registered : ℕ → S → Bo
   each_showing seat x i es [] k = tt
   each_showing seat x i es (c ∷ cs) k = (k.0, k.1, k.2, each_showing seat x i es cs k.3)
 
-  pub puts : (slots id task : ℕ) (me : Mine) (d : Deeds) (es : List Event) (fresh : Bool) (new : ℕ) → task < 256
+  puts_open : (slots id task : ℕ) (me : Mine) (d : Deeds) (es : List Event) (fresh : Bool) (new : ℕ) → task < 256
       → me.0.tasks ≡ seated_as task d es fresh ∷ [] → me.0.role ≡ Stands → IsSound me.0.width new
       → Allows Rule slots id me (32 + 8 * task) (λ _. new)
       (λ _. showed events registered width newest replies ready (step slots (32 + 8 * task) new 0 none) me new)
-  puts slots id task me d es fresh new low one stands sound s r _ at _ =
+  puts_open slots id task me d es fresh new low one stands sound s r _ at _ =
       let v : H = me.0 in
       let w : H = with_pending v (sent_in task new) in
       let k = r.rows.each id v at in
@@ -149,6 +152,7 @@ module _ {S : Type 0} (events : S → List Event) (registered : ℕ → S → Bo
             r.held at (length-set s.words (32 + 8 * task) new ∙ r.wide) (omega arith) r.small
             (same0 ∙ word ∙ ap (λ (z : ℕ). z + (if r.held then busy else 0)) (omega arith))
             (subst (λ (z : ℕ). z ≤ r.phase) (sym same16) r.over)
+            (shut_beside events registered count width newest replies ready s r (32 + 8 * task) new id v w at (no_keeper v w (Stands) stands refl) (λ e. absurd (omega arith)))
             (subst (λ (z : ℕ). House z r.value s.homes) (sym same0) r.home) (
               (r.each id v at).0,
               subst (λ (z : Role S). Suits r.seat z w.tasks v.phase r.phase (get_or ws 0 0) r.value
@@ -188,9 +192,16 @@ module _ {S : Type 0} (events : S → List Event) (registered : ℕ → S → Bo
             λ j. (with_pending v (sent_in (t j) new), me.1),
       )
 
-  pub finds : (slots id task : ℕ) (me : Mine) → Allows Rule slots id me (32 + 8 * task) (λ x. x)
+  pub puts : (slots id task : ℕ) (me : Mine) (d : Deeds) (es : List Event) (fresh : Bool) (new : ℕ) → task < 256
+      → me.0.tasks ≡ seated_as task d es fresh ∷ [] → me.0.role ≡ Stands → IsSound me.0.width new
+      → Allows Board slots id me (32 + 8 * task) (λ _. new)
+      (λ _. showed events registered width newest replies ready (step slots (32 + 8 * task) new 0 none) me new)
+  puts slots id task me d es fresh new low one stands sound s r sized at small = ⊎_elim (λ (u : IsUnopened s). absurd (not_unopened s id me.0 (is_in me.0 Stands stands (let k : length me.0.tasks ≡ 1 = ap length one in omega arith)) at u))
+      (λ (k : Rule s). let m = puts_open slots id task me d es fresh new low one stands sound s k sized at small in (m.0, m.1, m.2, inr m.3, m.4)) r
+
+  finds_open : (slots id task : ℕ) (me : Mine) → Allows Rule slots id me (32 + 8 * task) (λ x. x)
       (found events registered width newest replies ready (step slots (32 + 8 * task) 0 0 none) me)
-  finds slots id task me s r _ at _ = (
+  finds_open slots id task me s r _ at _ = (
     me.0,
     keeps,
     tt,
@@ -203,3 +214,8 @@ module _ {S : Type 0} (events : S → List Event) (registered : ℕ → S → Bo
           (k task, subst (λ (z : S). IsSound (width z) (get_or s.words (32 + 8 * task) 0)) (sym f.2) (r.rows.sound task)),
     ),
   )
+
+  pub finds : (slots id task : ℕ) (me : Mine) → IsIn me.0 → Allows Board slots id me (32 + 8 * task) (λ x. x)
+      (found events registered width newest replies ready (step slots (32 + 8 * task) 0 0 none) me)
+  finds slots id task me inside s r sized at small = ⊎_elim (λ (u : IsUnopened s). absurd (not_unopened s id me.0 inside at u))
+      (λ (k : Rule s). let m = finds_open slots id task me s k sized at small in (m.0, m.1, m.2, inr m.3, m.4)) r

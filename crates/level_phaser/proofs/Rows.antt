@@ -131,3 +131,11 @@ module _ {S : Type 0} where
         (λ (t : (i ≡ length views) × (n ≡ h)). subst (λ (z : SeatView S). Knows width words z) t.1 mine)
         (at_snoc views n h i e);
   }
+
+-- a table of zeros has no other word
+pub all_clear : (words items : List ℕ) (n : ℕ) → words ≡ items → items ≡ replicate n 0 → (i : ℕ) → get_or words i 0 ≡ 0
+all_clear words items n is begun i =
+    ap (λ (ws : List ℕ). get_or ws i 0) (is ∙ begun)
+    ∙ dite (dec_le n i)
+    (λ beyond. beyond_last (replicate n 0) i (subst (λ (k : ℕ). k ≤ i) (sym (length-replicate n 0)) beyond))
+    (λ inside. get_or-replicate n i 0 0 (omega arith))

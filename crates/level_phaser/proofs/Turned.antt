@@ -7,6 +7,7 @@ use Rattle.phase_model.specs.declared.history.Event.{Event}
 use Rattle.phase_model.specs.declared.history.Event.TheVariants.{Claim, Pass}
 use Rattle.phase_model.specs.declared.call.Call.{Call}
 use Rattle.phase_model.specs.declared.call.Call.TheVariants.{Signal as signal, Pass as pass}
+use Rattle.phase_modes.specs.declared.limits.Limits.{Limits}
 use Rattle.phase_model.specs.declared.terms.Terms.{Terms}
 use Rattle.phase_model.specs.Phases.{signals}
 use Rattle.phase_model.specs.Rules.{Story, with_event, is_permitted}
@@ -17,7 +18,7 @@ use Rattle.level_phaser.specs.Rounds.{Round, round, with_call, with_calls, round
 use Rattle.level_phaser.specs.RoundLaws.{StandLevel, HasRoomFor}
 use Rattle.level_phaser.specs.LevelPhasers.{IsReady}
 use Rattle.level_phaser.specs.inner.Stories.{Turned}
-use Rattle.level_phaser.proofs.Answered.{either_way, same_terms}
+use Rattle.level_phaser.proofs.Answered.{either_way, same_terms, same_limits}
 use Rattle.level_phaser.proofs.Keeps.{tail_on, tail_same}
 use Rattle.level_phaser.proofs.LevelTasks.{level_by}
 use Rattle.level_phaser.proofs.LevelRounds.{level_round}
@@ -43,6 +44,17 @@ either_terms : (b : Bool) (t : Terms) (q r : Round) → q.story.terms ≡ t → 
     → (if b then q else r).story.terms ≡ t
 either_terms true t q r a b = a
 either_terms false t q r a b = b
+
+either_limits : (b : Bool) (l : Limits) (q r : Round) → q.story.limits ≡ l → r.story.limits ≡ l
+    → (if b then q else r).story.limits ≡ l
+either_limits true l q r a b = a
+either_limits false l q r a b = b
+
+-- nor its limits
+pub calls_limits : (p : ℕ) (r : Round) (cs : List Call) → (with_calls p r cs).story.limits ≡ r.story.limits
+calls_limits p r [] = refl
+calls_limits p r (c ∷ cs) = calls_limits p (with_call p r c) cs
+    ∙ either_limits r.is_whole r.story.limits _ r (same_limits r.story (reply r.story c)) refl
 
 calls_terms : (p : ℕ) (r : Round) (cs : List Call) → (with_calls p r cs).story.terms ≡ r.story.terms
 calls_terms p r [] = refl

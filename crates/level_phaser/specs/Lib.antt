@@ -1,6 +1,7 @@
 -- The definitions that the contracts cite.
 pub mod Changes
 pub mod Deeds
+pub mod Keeping
 pub mod LevelPhasers
 pub mod RoundLaws
 pub mod Rounds

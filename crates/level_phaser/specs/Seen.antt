@@ -26,6 +26,11 @@ module _ {S : Type 0} (events : S → List Event) (registered : ℕ → S → Bo
       (x : S) × (w ≡ gone_on v (events x)) × IsTail v.seen (events x) × ready (v.phase + 1) x
       × AreSeated w.tasks x
 
+  -- The table was closed, in the phase of the seat's tasks. At some time after what they had seen all stood level in this
+  -- phase, and they had done just what their calls did: so none of them has signalled it, and what they show isn't sent.
+  abbrev pub IsClosed : SeatView S → Type 0
+  IsClosed v = (x : S) × IsTail v.seen (events x) × ready v.phase x × AreSeated v.tasks x
+
   -- One event more ends a history that goes on from what was seen before: so much is seen now, and nothing else
   -- changed. Before that event the seat's tasks had done in it just what their calls did: so it counts once.
   abbrev pub HasSent : Event → SeatView S → SeatView S → Type 0

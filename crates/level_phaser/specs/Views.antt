@@ -1,10 +1,11 @@
 -- What a seat knows, and how it changes.
-use Rattle.std.specs.Prelude.{ℕ, ◌+◌, Bool, true, false, List, [], ◌∷◌}
+use Rattle.std.specs.Prelude.{ℕ, ◌+◌, Bool, true, false, List, [], ◌∷◌, Option, None, Some}
 use Rattle.phase_model.specs.declared.history.Event.{Event}
 use Rattle.level_phaser.specs.declared.view.Deeds.{Deeds}
 use Rattle.level_phaser.specs.declared.view.SeatedTask.{SeatedTask}
+use Rattle.level_phaser.specs.declared.view.Opening.{Opening}
 use Rattle.level_phaser.specs.declared.view.Role.{Role}
-use Rattle.level_phaser.specs.declared.view.Role.TheVariants.{Stands, Gone}
+use Rattle.level_phaser.specs.declared.view.Role.TheVariants.{Stands, Came, Gone}
 use Rattle.level_phaser.specs.declared.view.SeatView.{SeatView}
 use Rattle.level_phaser.specs.Deeds.{deeds, deeds_of, with_signal, with_sends}
 
@@ -20,6 +21,11 @@ seated_as task done pending fresh = record { task = task; deeds = done; pending 
 abbrev pub signalled : List SeatedTask → List SeatedTask
 signalled [] = []
 signalled (c ∷ cs) = seated_as c.task (with_signal (with_sends c.pending c.deeds)) c.pending true ∷ signalled cs
+
+-- these tasks, each with what it did by this history
+abbrev pub seats_in : List Event → List ℕ → List SeatedTask
+seats_in h [] = []
+seats_in h (t ∷ ts) = seated t (deeds_of t h) [] ∷ seats_in h ts
 
 -- each with what it did by this history
 abbrev pub known_by : List Event → List SeatedTask → List SeatedTask
@@ -56,6 +62,18 @@ module _ {S : Type 0} where
   abbrev pub first_view : ℕ → ℕ → SeatView S
   first_view task width = view_of (seated task (deeds 0 []) [] ∷ []) 0 Stands [] 0 width
 
+  -- who made the table, before it is opened: the value that nobody uses is at home
+  abbrev pub idle_view : SeatView S
+  idle_view = view_of [] 0 Stands [] 0 0
+
+  -- the same, which has that value
+  abbrev pub opening_view : SeatView S
+  opening_view = view_of [] 0 Came [] 0 0
+
+  -- the same seat in another role and phase
+  abbrev pub with_phase : SeatView S → Role S → ℕ → SeatView S
+  with_phase v role phase = view_of v.tasks phase role v.seen v.heard v.width
+
   -- the same seat in another role
   abbrev pub with_role : SeatView S → Role S → SeatView S
   with_role v role = view_of v.tasks v.phase role v.seen v.heard v.width
@@ -88,3 +106,8 @@ module _ {S : Type 0} where
   -- it has read the note
   abbrev pub told : SeatView S → SeatView S → SeatView S
   told v note = view_of v.tasks v.phase v.role v.seen note.phase v.width
+
+  -- the view of the seat of who made the table: of the first task, if it is open at once
+  abbrev pub first_of_all : Option Opening → SeatView S
+  first_of_all None = idle_view
+  first_of_all (Some o) = first_view o.task o.width

@@ -2,6 +2,7 @@
 pub mod Board
 pub mod Foldings
 pub mod Folds
+pub mod Keeping
 pub mod Plays
 pub mod Steps
 pub mod Stories

@@ -11,8 +11,7 @@ ghost use Rattle.level_phaser.specs.inner.Foldings.{Folding, HasFolded, HasOnly}
 
 use crate::plays::Fold;
 use crate::state::LevelState;
-use crate::view::{Level, LevelSeat, Opening, SeatView};
-use atomic_table::Shared;
+use crate::view::{LevelSeat, LevelShared};
 use phase_model::LongLook;
 use phase_modes::Refusal;
 
@@ -81,7 +80,7 @@ fn ask_first<S: LevelState>(value: &mut S, accumulator: u8, phase: u64) -> u64
 
 /// What this accumulator holds now is written in the word of its fold.
 fn write_fold<S: LevelState>(
-    shared: &Shared<S, SeatView<S>, Opening, Level>,
+    shared: &LevelShared<S>,
     seat: &mut LevelSeat<S>,
     phase: u64,
     accumulator: u8,
@@ -100,7 +99,7 @@ fn write_fold<S: LevelState>(
 
 /// The words of all folds are written.
 pub(crate) fn write_folds<S: LevelState>(
-    shared: &Shared<S, SeatView<S>, Opening, Level>,
+    shared: &LevelShared<S>,
     seat: &mut LevelSeat<S>,
     phase: u64,
 )

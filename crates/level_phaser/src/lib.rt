@@ -4,6 +4,7 @@
 #![tactic(auto)]
 
 mod folds;
+mod keeper;
 mod member;
 mod phaser;
 mod plays;
@@ -14,10 +15,11 @@ mod state;
 mod steps;
 mod view;
 
+pub use keeper::{Door, Keeper};
 pub use member::Member;
 pub use phaser::LevelPhaser;
 pub use round::{GivenSend, RoundCourse, make_round};
 pub use round_laws::{level_looks, level_round};
 pub use stage::Stage;
 pub use state::LevelState;
-pub use view::{Deeds, Level, LevelSeat, LevelTable, Role, SeatView, SeatedTask};
+pub use view::{Deeds, Level, LevelSeat, LevelShared, LevelTable, Role, SeatView, SeatedTask};

@@ -1,5 +1,6 @@
 //! A phaser whose tasks all stand level.
 ghost use Rattle.std.specs.Prelude.{◌≡◌, ◌+◌, ◌-◌, ◌≤◌, [], true, IfOk, IfErr, IfSome, IfNone, IsTrue, IsFalse, length, vec_len};
+ghost use Rattle.phase_modes.specs.Limits.{is_between};
 ghost use Rattle.phase_model.specs.Laws.{IsLegal};
 ghost use Rattle.phase_model.specs.Replies.{reply};
 ghost use Rattle.phase_model.specs.Tasks.{is_live};
@@ -26,6 +27,7 @@ pub struct LevelPhaser {
     pub phaser: LongPhaser,
     pub tasks: Vec<u64>,
     ghost few: { vec_len tasks ≤ 256 },
+    ghost regs: { is_between 1 phaser.story.limits.regs 256 ≡ true },
 }
 
 impl LevelPhaser {
@@ -52,6 +54,7 @@ fn make_first(phaser: &mut LongPhaser) -> Option<u64>
         Joined 0 t [] phaser.old.story phaser.new.story × IsLegal phaser.new.story
         × (phaser.new.next ≡ t + 1)) }
     ensures none { IfNone result (phaser.new ≡ phaser.old) }
+    ensures limits { phaser.new.story.limits ≡ phaser.old.story.limits }
 {
     let Ok(task) = phaser.make(Mode::SigWait) else {
         return None;
@@ -68,6 +71,7 @@ fn register_by(phaser: &mut LongPhaser, parent: u64, _tasks: &[u64], _phase: u64
         Joined _phase t _tasks.now phaser.old.story phaser.new.story × IsLegal phaser.new.story
         × (phaser.new.next ≡ t + 1)) }
     ensures none { IfNone result (phaser.new ≡ phaser.old) }
+    ensures limits { phaser.new.story.limits ≡ phaser.old.story.limits }
 {
     let Ok(task) = phaser.register(parent, Mode::SigWait) else {
         return None;
@@ -84,6 +88,7 @@ fn register(phaser: &mut LongPhaser, tasks: &[u64], phase: u64) -> Option<u64>
         Joined phase t tasks.now phaser.old.story phaser.new.story × IsLegal phaser.new.story
         × (phaser.new.next ≡ t + 1)) }
     ensures none { IfNone result (phaser.new ≡ phaser.old) }
+    ensures limits { phaser.new.story.limits ≡ phaser.old.story.limits }
 {
     if let Some(parent) = tasks.first() {
         return register_by(phaser, *parent, tasks, phase);
@@ -99,6 +104,7 @@ fn turn_all(phaser: &mut LongPhaser, tasks: &[u64], phase: u64) -> bool
     requires { IsReady phase tasks.now phaser.old.story × (length tasks.now ≤ 256) }
     ensures made { IsTrue result → Turned phase tasks.now phaser.old.story phaser.new.story }
     ensures full { IsFalse result → IsFull phaser.old.story }
+    ensures limits { phaser.new.story.limits ≡ phaser.old.story.limits }
 {
     let told = phaser.history();
     if told.limits().history - told.len() < ROOM {
@@ -135,6 +141,16 @@ impl LevelState for LevelPhaser {
 
     fn width(&self) -> u64 {
         self.phaser.history().ops().len() as u64
+    }
+
+    fn phase(&self) -> u64 {
+        let Some(first) = self.tasks.get(0) else {
+            return 0;
+        };
+        match self.phaser.registration(*first) {
+            Some(reg) => reg.phase,
+            None => 0,
+        }
     }
 
     fn task_at(&self, place: u64, phase: u64) -> Option<u64> {

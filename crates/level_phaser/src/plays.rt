@@ -1,6 +1,6 @@
 //! What each step on the table tells.
-ghost use Rattle.level_phaser.specs.inner.Plays.{came, looked, ended, claimed, joined, left, raised, released, heeded, shown, showed, found, folded, fetched};
-ghost use Rattle.level_phaser.specs.inner.Steps.{first_of, others_of};
+ghost use Rattle.level_phaser.specs.inner.Plays.{came, looked, looked_shut, taken, opened, seized, ended, claimed, joined, left, raised, released, heeded, shown, showed, found, folded, fetched};
+ghost use Rattle.level_phaser.specs.inner.Steps.{first_of, others_of, rest_of};
 ghost use Rattle.level_phaser.specs.Views.{note_of, told};
 ghost use Rattle.level_phaser.specs.inner.Board.{spent};
 
@@ -18,6 +18,41 @@ pub(crate) struct Look;
 
 impl<S: LevelState> Play<S, SeatView<S>> for Look {
     ghost then = { looked S.events S.registered S.width S.newest S.replies S.ready };
+}
+
+/// Who waits reads whether the table was closed.
+pub(crate) struct LookShut;
+
+impl<S: LevelState> Play<S, SeatView<S>> for LookShut {
+    ghost then = { looked_shut S.events S.registered S.width S.newest S.replies S.ready };
+}
+
+/// Who made the table takes the value that nobody uses.
+pub(crate) struct Take;
+
+impl<S: LevelState> Play<S, SeatView<S>> for Take {
+    ghost then = { taken };
+}
+
+/// And opens it with another.
+pub(crate) struct Open;
+
+impl<S: LevelState> Play<S, SeatView<S>> for Open {
+    ghost then = { opened S.events S.width S.tasks S.ready };
+}
+
+/// The keeper takes the value.
+pub(crate) struct Seize;
+
+impl<S: LevelState> Play<S, SeatView<S>> for Seize {
+    ghost then = { seized S.events S.count S.ready };
+}
+
+/// And says that the table is closed.
+pub(crate) struct Shut;
+
+impl<S: LevelState> Play<S, SeatView<S>> for Shut {
+    ghost then = { raised S.events S.registered S.width S.newest S.replies S.ready };
 }
 
 pub(crate) struct End;
@@ -95,6 +130,15 @@ pub(crate) struct Cut;
 
 impl<S: LevelState> Split<SeatView<S>> for Cut {
     ghost left = { others_of };
+
+    ghost right = { first_of };
+}
+
+/// The same, of all tasks of a table.
+pub(crate) struct Deal;
+
+impl<S: LevelState> Split<SeatView<S>> for Deal {
+    ghost left = { rest_of };
 
     ghost right = { first_of };
 }

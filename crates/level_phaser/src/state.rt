@@ -53,6 +53,13 @@ pub trait LevelState: Drop {
     fn width(&self) -> u64
         ensures { (result ≡ width self.now) × (result ≤ 4) };
 
+    /// The phase in which all stand, if there is a task.
+    fn phase(&self) -> u64
+        ensures phase { (p : ℕ) → ready p self.now → 0 < count self.now → result ≡ p }
+        ensures there { (p : ℕ) → ready p self.now → (t : ℕ) → is_among t (tasks self.now) ≡ true
+            → registered t self.now ≡ true }
+        ensures apart { (p : ℕ) → ready p self.now → AreApart (tasks self.now) };
+
     /// The task at this place; None beyond the last. Each stands at one place.
     fn task_at(&self, place: u64, phase: u64) -> Option<u64>
         requires ready { ready phase self.now }

@@ -1,5 +1,5 @@
 //! The calls of a task.
-ghost use Rattle.std.specs.Prelude.{◌≡◌, ◌≢◌, ◌+◌, ◌^◌, ◌<◌, ◌≤◌, [], ◌∷◌, ◌⊎◌, IfOk, true, IsTrue, IsFalse, ℕ, false, None, Some, Ok, is_some, MatchBool, MatchOption, MatchResult, IfSome, Err};
+ghost use Rattle.std.specs.Prelude.{◌≡◌, ◌≢◌, ◌+◌, ◌^◌, ◌<◌, ◌≤◌, [], ◌∷◌, ◌⊎◌, IfOk, true, IsTrue, IsFalse, ℕ, false, None, Some, Ok, is_some, MatchBool, MatchOption, MatchResult, IfSome, Err, if◌then◌else◌, length};
 ghost use Rattle.std.specs.Arc.{arc_value};
 ghost use Rattle.std.specs.Option.{ForSome};
 ghost use Rattle.told_history.specs.Tails.{IsTail};
@@ -7,11 +7,11 @@ ghost use Rattle.phase_model.specs.declared.call.Call.TheVariants.{Send as send,
 ghost use Rattle.phase_model.specs.declared.history.Event.TheVariants.{Send as Sent};
 ghost use Rattle.phase_model.specs.Replies.{done_result};
 ghost use Rattle.phase_model.specs.Answers.{look_result};
-ghost use Rattle.level_phaser.specs.declared.stage.Stage.TheVariants.{Stands, Waits, Gone, Stuck};
+ghost use Rattle.level_phaser.specs.declared.stage.Stage.TheVariants.{Stands, Waits, Gone, Stuck, Closed};
 ghost use Rattle.level_phaser.specs.declared.view.Role.TheVariants.{Came, Stands as StandsIn};
 ghost use Rattle.level_phaser.specs.Deeds.{deeds, kept_in};
 ghost use Rattle.level_phaser.specs.Views.{pending_in, fresh_in, seated, seated_as, view_of, first_view, with_role, with_pending, note_of, told};
-ghost use Rattle.level_phaser.specs.Seen.{GoneOn, HasKept, HasToldKept, HasSent, HasLeft, HasNoRoom, IsReplied};
+ghost use Rattle.level_phaser.specs.Seen.{GoneOn, IsClosed, HasKept, HasToldKept, HasSent, HasLeft, HasNoRoom, IsReplied};
 ghost use Rattle.level_phaser.specs.inner.Plays.{Claimed, IsLast};
 ghost use Rattle.level_phaser.specs.inner.Steps.{IsSized, deeds_in};
 ghost use Rattle.level_phaser.specs.inner.Board.{sent_in, IsSound, accumulator_in};
@@ -20,14 +20,14 @@ ghost use Rattle.level_phaser.specs.inner.Tellings.{Tells, HasToldAll};
 use crate::folds::{FOLDS, fold_of, write_folds};
 use crate::member::Member;
 use crate::plays::{
-    Claim, Come, Cut, End, Fetch, Find, Hear, Heed, Join, Leave, Look, Note, Put, Raise, Release,
-    Show,
+    Claim, Come, Cut, End, Fetch, Find, Hear, Heed, Join, Leave, Look, LookShut, Note, Put, Raise,
+    Release, Show,
 };
 use crate::round::GivenSend;
 use crate::stage::Stage;
 use crate::state::LevelState;
-use crate::view::{Level, LevelSeat, LevelTable, Opening, SeatView};
-use atomic_table::{Shared, Table};
+use crate::view::{LevelSeat, LevelShared, LevelTable, Opening};
+use atomic_table::Table;
 use phase_model::LongLook;
 use phase_modes::Refusal;
 use std::alloc::{AllocError, Global};
@@ -35,9 +35,12 @@ use std::sync::Arc;
 
 /// The word that counts the tasks that haven't come, and that of the rounds whose tasks may go on:
 /// each in a line of memory of its own.
-const COUNT: usize = 0;
+pub(crate) const COUNT: usize = 0;
 
 const OVER: usize = 16;
+
+/// Beside it lies the word that says if the table was closed: it is 1 more than the phase, or 0.
+pub(crate) const SHUT: usize = 17;
 
 /// From here on each task whose number is below `MOST_ROWS` has a row, in a line of memory of its
 /// own. It shows a value in the first word of it.
@@ -45,12 +48,12 @@ const ROWS: usize = 32;
 
 const ROW: usize = 8;
 
-const MOST_ROWS: u64 = 256;
+pub(crate) const MOST_ROWS: u64 = 256;
 
-const WORDS: usize = 2080;
+pub(crate) const WORDS: usize = 2080;
 
 /// It is added to the count while somebody holds what is shared.
-const BUSY: u64 = 1 << 62;
+pub(crate) const BUSY: u64 = 1 << 62;
 
 /// A word of a row has the accumulator from this bit on.
 const SHIFT: u64 = 1 << 32;
@@ -80,12 +83,9 @@ fn accumulator_of(word: u64) -> u8
 }
 
 /// Holds what is shared, unless others do, or all have come.
-fn claim<S: LevelState>(
-    shared: &Shared<S, SeatView<S>, Opening, Level>,
-    seat: &mut LevelSeat<S>,
-) -> bool
+fn claim<S: LevelState>(shared: &LevelShared<S>, seat: &mut LevelSeat<S>) -> bool
     requires table { (seat.old.table_id ≡ shared.now.table_id) × IsSized shared.now.table_id }
-    requires stands { (seat.old.me.0.role ≡ StandsIn) × (seat.old.me.1 ≡ []) }
+    requires stands { (seat.old.me.0.role ≡ StandsIn) × (seat.old.me.1 ≡ []) × (0 < length seat.old.me.0.tasks) }
     ensures same { seat.new.table_id ≡ seat.old.table_id }
     ensures claimed { IsTrue result → Claimed S.events S.registered S.ready seat.old.me seat.new.me }
     ensures kept { IsFalse result → seat.new.me ≡ seat.old.me }
@@ -99,7 +99,7 @@ fn claim<S: LevelState>(
 
 /// The task's row shows the value that is kept. Whether it shows one.
 fn show<S: LevelState>(
-    shared: &Shared<S, SeatView<S>, Opening, Level>,
+    shared: &LevelShared<S>,
     seat: &mut LevelSeat<S>,
     task: u64,
     kept: Option<GivenSend>,
@@ -130,7 +130,7 @@ fn show<S: LevelState>(
 /// The last tells what the row of the task at this place shows. Whether it did: there may be no
 /// room.
 fn tell_row<S: LevelState>(
-    shared: &Shared<S, SeatView<S>, Opening, Level>,
+    shared: &LevelShared<S>,
     seat: &mut LevelSeat<S>,
     phase: u64,
     place: u64,
@@ -160,11 +160,7 @@ fn tell_row<S: LevelState>(
 }
 
 /// The last tells what all rows show. Whether it did: there may be no room.
-fn tell_all<S: LevelState>(
-    shared: &Shared<S, SeatView<S>, Opening, Level>,
-    seat: &mut LevelSeat<S>,
-    phase: u64,
-) -> bool
+fn tell_all<S: LevelState>(shared: &LevelShared<S>, seat: &mut LevelSeat<S>, phase: u64) -> bool
     requires table { (seat.old.table_id ≡ shared.now.table_id) × IsSized shared.now.table_id }
     requires last { IsLast S.events S.ready phase seat.old.me }
     ensures same { (seat.new.table_id ≡ seat.old.table_id) × (seat.new.me.0 ≡ seat.old.me.0) }
@@ -182,11 +178,7 @@ fn tell_all<S: LevelState>(
 
 /// The last tells what the rows show, makes the round, and gives back what is shared. Whether it
 /// did: there may be no room.
-fn end_round<S: LevelState>(
-    shared: &Shared<S, SeatView<S>, Opening, Level>,
-    seat: &mut LevelSeat<S>,
-    phase: u64,
-) -> bool
+fn end_round<S: LevelState>(shared: &LevelShared<S>, seat: &mut LevelSeat<S>, phase: u64) -> bool
     requires table { (seat.old.table_id ≡ shared.now.table_id) × IsSized shared.now.table_id }
     requires small { phase + 1 < 2 ^ 64 }
     requires last { IsLast S.events S.ready phase seat.old.me }
@@ -226,8 +218,12 @@ impl<S: LevelState> Member<S> {
         words[COUNT] = 1;
         let mut slots = Vec::with_capacity(alloc, 1)?;
         slots.push_reserved(value);
-        let Ok((table, seat)) = Table::new(alloc, words.as_slice(), slots, &Opening { task, width })
-        else {
+        let Ok((table, seat)) = Table::new(
+            alloc,
+            words.as_slice(),
+            slots,
+            &Some(Opening { task, width }),
+        ) else {
             return Err(AllocError);
         };
         let board: Arc<LevelTable<S>, Global> = Arc::new(alloc, table)?;
@@ -256,11 +252,10 @@ impl<S: LevelState> Member<S> {
             (((self.new.stage ≡ Waits) × (self.new.seat.me.0
             ≡ with_role (with_pending self.old.seat.me.0 (kept_in self.old.task self.old.kept)) Came))
             ⊎ ((self.new.stage ≡ Stuck) × HasNoRoom S.events S.full self.old.seat.me.0)) }
-        ensures kept { self.new.kept ≡ None }
+        ensures kept { self.new.kept ≡ (if result then None else self.old.kept) }
     {
         let shared = &self.board.shared;
         self.is_shown = show(shared, &mut self.seat, self.task, self.kept, self.is_shown);
-        self.kept = None;
         if shared.fetch_sub::<Come>(&mut self.seat, COUNT, 1) != 1 {
             self.stage = Stage::Waits;
             return false;
@@ -271,29 +266,71 @@ impl<S: LevelState> Member<S> {
         }
         self.phase += 1;
         self.is_fresh = true;
+        self.kept = None;
         shared.store::<Raise>(&mut self.seat, OVER, self.phase);
         true
     }
 
-    /// Whether the round in which the task came is over: then it stands in the next phase. It reads
-    /// one word, and may be called again and again.
+    /// The same by the word that says if the table was closed: it comes after that of the rounds, since
+    /// whoever ends a round raises that a little later.
+    fn look_shut(&mut self) -> bool
+        requires { (self.old.stage ≡ Waits) × (self.old.phase + 1 < 2 ^ 64) }
+        ensures same { (self.new.seat.table_id ≡ self.old.seat.table_id) × (self.new.task ≡ self.old.task) }
+        ensures outcome { MatchBool result
+            ((self.new.stage ≡ Stands) × GoneOn S.events S.registered S.ready self.old.seat.me.0
+            self.new.seat.me.0)
+            ((self.new.seat.me.0 ≡ self.old.seat.me.0) × ((self.new.stage ≡ Waits)
+            ⊎ ((self.new.stage ≡ Closed) × IsClosed S.events S.registered S.ready self.old.seat.me.0))) }
+        ensures kept { self.new.kept ≡ (if result then None else self.old.kept) }
+    {
+        let shared = &self.board.shared;
+        let shut = shared.load::<LookShut>(&mut self.seat, SHUT);
+        if shut == 0 {
+            return false;
+        }
+        if shut <= self.phase + 1 {
+            self.stage = Stage::Closed;
+            return false;
+        }
+        self.phase += 1;
+        self.is_fresh = true;
+        self.kept = None;
+        self.stage = Stage::Stands;
+        true
+    }
+
+    /// Whether the round in which the task came is over: then it stands in the next phase. Or the
+    /// table was closed, and the task hasn't signalled: what it kept isn't sent. It reads two words,
+    /// and may be called again and again.
     pub fn look(&mut self) -> bool
         requires { (self.old.stage ≡ Waits) × (self.old.phase + 1 < 2 ^ 64) }
         ensures same { (self.new.seat.table_id ≡ self.old.seat.table_id) × (self.new.task ≡ self.old.task) }
         ensures outcome { MatchBool result
             ((self.new.stage ≡ Stands) × GoneOn S.events S.registered S.ready self.old.seat.me.0
             self.new.seat.me.0)
-            ((self.new.stage ≡ Waits) × (self.new.seat.me.0 ≡ self.old.seat.me.0)) }
-        ensures kept { self.new.kept ≡ self.old.kept }
+            ((self.new.seat.me.0 ≡ self.old.seat.me.0) × ((self.new.stage ≡ Waits)
+            ⊎ ((self.new.stage ≡ Closed) × IsClosed S.events S.registered S.ready self.old.seat.me.0))) }
+        ensures kept { self.new.kept ≡ (if result then None else self.old.kept) }
     {
         let shared = &self.board.shared;
         if shared.load::<Look>(&mut self.seat, OVER) <= self.phase {
-            return false;
+            return self.look_shut();
         }
         self.phase += 1;
         self.is_fresh = true;
+        self.kept = None;
         self.stage = Stage::Stands;
         true
+    }
+
+    /// The value that the task keeps, which it keeps no more. None if it keeps none.
+    pub fn take_kept(&mut self) -> Option<GivenSend>
+        ensures kept { (result ≡ self.old.kept) × (self.new.kept ≡ None) }
+        ensures same { (self.new.seat.table_id ≡ self.old.seat.table_id) × (self.new.task ≡ self.old.task)
+            × (self.new.seat.me.0 ≡ self.old.seat.me.0) × (self.new.stage ≡ self.old.stage)
+            × (self.new.phase ≡ self.old.phase) }
+    {
+        self.kept.take()
     }
 
     /// A new task joins, which stands where this one does. None if others hold what is shared, or

@@ -1,6 +1,6 @@
 //! What the thread of a task knows, and the rule over what all threads know and what they share.
 use crate::state::LevelState;
-use atomic_table::{Seat, Table, TableRule};
+use atomic_table::{Seat, Shared, Table, TableRule};
 use phase_model::Event;
 use std::alloc::Global;
 use std::collections::LinkedList;
@@ -21,8 +21,9 @@ pub struct SeatedTask {
 }
 
 /// Where a seat's tasks stand: they haven't come in their phase; they have; they came last, have
-/// what is shared, and find these words; they haven't come, and hold what is shared out of turn; there is none any
-/// more.
+/// what is shared, and find these words; they haven't come, and hold what is shared out of turn;
+/// there is none any more. A seat without tasks that holds it is of who closes the table, and never
+/// gives it back.
 pub enum Role<S> {
     Stands,
     Came,
@@ -44,7 +45,8 @@ pub struct SeatView<S> {
     pub width: u64,
 }
 
-/// What a table begins with: its first task, and how many accumulators there are.
+/// What a table begins with that is open at once: its first task, and how many accumulators there
+/// are.
 #[derive(Clone, Copy)]
 pub struct Opening {
     pub task: u64,
@@ -54,17 +56,20 @@ pub struct Opening {
 /// The rule.
 pub struct Level;
 
-impl<S: LevelState> TableRule<S, SeatView<S>, Opening> for Level {
-    ghost use Rattle.level_phaser.specs.Views.{first_view};
-    ghost use Rattle.level_phaser.specs.inner.Board.{IsLevel};
+impl<S: LevelState> TableRule<S, SeatView<S>, Option<Opening>> for Level {
+    ghost use Rattle.level_phaser.specs.Views.{first_of_all};
+    ghost use Rattle.level_phaser.specs.inner.Board.{IsBoard};
 
-    ghost holds = { λ _. IsLevel S.events S.registered S.count S.width S.replies S.ready };
+    ghost holds = { λ _. IsBoard S.events S.registered S.count S.width S.replies S.ready };
 
-    ghost first = { λ o. first_view o.task o.width };
+    ghost first = { λ o. first_of_all o };
 }
 
 /// The table that the tasks share.
-pub type LevelTable<S> = Table<S, SeatView<S>, Opening, Level, Global>;
+pub type LevelTable<S> = Table<S, SeatView<S>, Option<Opening>, Level, Global>;
+
+/// What a thread makes its steps on.
+pub type LevelShared<S> = Shared<S, SeatView<S>, Option<Opening>, Level>;
 
 /// A token of no bytes, with which a thread makes its steps on the table.
 pub type LevelSeat<S> = Seat<S, SeatView<S>>;

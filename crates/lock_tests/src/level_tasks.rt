@@ -320,6 +320,24 @@ fn looks_while_tasks_join_and_leave(rt: HostRuntime) -> Result<(), Fail> {
     compare_from(&rt, rt.alloc(), task, &LEAST)
 }
 
+/// A value that is taken from a task is not sent: in phase 0 only -2 is.
+#[test]
+fn a_kept_value_is_taken(rt: HostRuntime) -> Result<(), Fail> {
+    let mut task = first(rt.alloc())?;
+    equal(&rt, task.take_kept().is_none(), true);
+    equal(&rt, send(&mut task, 0, 5), DONE);
+    match task.take_kept() {
+        Some(kept) => equal(&rt, (kept.task, kept.accumulator, kept.value), (0, 0, 5)),
+        None => equal(&rt, false, true),
+    }
+    equal(&rt, task.take_kept().is_none(), true);
+    equal(&rt, send(&mut task, 0, -2), DONE);
+    equal(&rt, come(&mut task), Answer::Is(true));
+    equal(&rt, look_at(&mut task), sum(-2));
+    equal(&rt, task.take_kept().is_none(), true);
+    Ok(())
+}
+
 /// So many tasks join and leave: those after them have no row.
 const MANY: u64 = 300;
 

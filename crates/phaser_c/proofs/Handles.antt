@@ -8,6 +8,8 @@ use Rattle.phaser_judge.specs.contracts.judge.Judge.{the_row as judge_row}
 use Rattle.phaser_c.specs.contracts.judge_handle.JudgeHandle.{the_type as judge_handle_type}
 use Rattle.phaser_c.specs.contracts.level_task.LevelTask.{the_row as level_row}
 use Rattle.phaser_c.specs.contracts.level_handle.LevelHandle.{the_type as level_handle_type}
+use Rattle.phaser_c.specs.contracts.level_keeper.LevelKeeper.{the_row as keeper_row}
+use Rattle.phaser_c.specs.contracts.keeper_handle.KeeperHandle.{the_type as keeper_handle_type}
 use Rattle.phaser_c.proofs.Held.{Holder}
 
 abbrev pub handle : Holder phaser_row
@@ -43,6 +45,16 @@ judge_handle = record {
 abbrev pub level_handle : Holder level_row
 level_handle = record {
   the_type = level_handle_type;
+  at = λ d. d.at;
+  state = λ d. d.state;
+  make = λ p s. record { at = p; state = s };
+  at_made = λ p s. refl;
+  state_made = λ p s. refl;
+}
+
+abbrev pub keeper_handle : Holder keeper_row
+keeper_handle = record {
+  the_type = keeper_handle_type;
   at = λ d. d.at;
   state = λ d. d.state;
   make = λ p s. record { at = p; state = s };

@@ -6,12 +6,12 @@ use Rattle.phase_modes.specs.declared.refusal.Refusal.TheVariants.{Memory}
 use Rattle.phase_model.specs.Rules.{Story}
 use Rattle.phase_model.specs.declared.op.Look.{Look}
 use Rattle.level_phaser.specs.declared.stage.Stage.{Stage}
-use Rattle.level_phaser.specs.declared.stage.Stage.TheVariants.{Stands, Waits, Gone, Stuck}
+use Rattle.level_phaser.specs.declared.stage.Stage.TheVariants.{Stands, Waits, Gone, Stuck, Closed as WasClosed}
 use Rattle.phaser_c.specs.Waiting.{answer_done, answer_seen, value_seen}
 use Rattle.phaser_c.specs.declared.answer.ExportAnswer.{ExportAnswer}
 use Rattle.phaser_c.specs.declared.answer.ExportAnswer.TheVariants.{Done, Closed, Refused}
 use Rattle.phaser_c.specs.declared.level_task.LevelTask.{LevelTask}
-use Rattle.phaser_c.specs.LevelCalls.{LevelMember, IsCalledBy, IsSeenBy, IsSame, IsKept, IfMay, HasSent, HasSeen, AskedToSend, SentSo, SeenSo, IsGiven, IsFirst, IsFirstFor, IsChild, HasJoined, HasJoinedFor, IsJoinedFor, view, stands, member_of}
+use Rattle.phaser_c.specs.LevelCalls.{LevelMember, IsCalledBy, IsSeenBy, HasGiven, IsGivenBy, waits, IsSame, IsKept, IfMay, HasSent, HasSeen, AskedToSend, SentSo, SeenSo, IsGiven, IsFirst, IsFirstFor, IsChild, HasJoined, HasJoinedFor, IsJoinedFor, view, stands, member_of}
 
 -- what a task does is done by what holds it
 pub called_by : (How : LevelMember → LevelMember → ExportAnswer → Type 0) (old : Option LevelMember) (m n : LevelMember)
@@ -30,6 +30,7 @@ is_standing Stands k = refl
 is_standing Waits k = absurd cc
 is_standing Gone k = absurd cc
 is_standing Stuck k = absurd cc
+is_standing WasClosed k = absurd cc
 
 -- a task that stands has made its send
 pub sent_so : (accumulator : ℕ) (value : ℤ) (m n : LevelMember) (a : ExportAnswer) (r : Result (Unit {0}) Refusal)
@@ -61,6 +62,19 @@ pub unseen_at : (accumulator : ℕ) (old new : Option LevelTask) (v : ℤ) → o
 unseen_at accumulator old new v is is' =
     subst (λ (o : Option LevelTask). IsSeenBy accumulator (member_of o) (member_of new) v v Closed) (sym is)
     (refl, ap member_of is', refl)
+
+-- so is what it gives
+pub given_by : (old : Option LevelMember) (m n : LevelMember) (o o' : ℕ) (v w : ℤ) (a : ExportAnswer) → old ≡ Some m
+    → HasGiven (waits m.stage) o o' v w m n a → IsGivenBy old (Some n) o o' v w a
+given_by old m n o o' v w a is how =
+    subst (λ (x : Option LevelMember). IsGivenBy x (Some n) o o' v w a) (sym is) (n, refl, how)
+
+-- nothing is given of a handle that holds none
+pub ungiven_at : (old new : Option LevelTask) (o : ℕ) (v : ℤ) → old ≡ None → new ≡ None
+    → IsGivenBy (member_of old) (member_of new) o o v v Closed
+ungiven_at old new o v is is' =
+    subst (λ (x : Option LevelTask). IsGivenBy (member_of x) (member_of new) o o v v Closed) (sym is)
+    (refl, ap member_of is', refl, refl)
 
 -- a handle that holds none is given the first task, or memory is refused
 pub made_first : (old new : Option LevelMember) (given : Result Story ExportAnswer) (m : LevelMember) (a : ExportAnswer)

@@ -4,6 +4,7 @@ mod HandleWalks
 mod Handles
 mod Held
 mod Judgements
+mod LevelOpened
 mod LevelTasks
 mod NoMemory
 mod Parts

@@ -14,17 +14,18 @@ use Rattle.phase_model.specs.Replies.{Reply, reply, done_result}
 use Rattle.phase_model.specs.Answers.{look_result}
 use Rattle.level_phaser.specs.declared.phaser.LevelPhaser.{LevelPhaser}
 use Rattle.level_phaser.specs.declared.member.Member.{Member}
+use Rattle.level_phaser.specs.declared.round.GivenSend.{GivenSend}
 use Rattle.level_phaser.specs.declared.stage.Stage.{Stage}
-use Rattle.level_phaser.specs.declared.stage.Stage.TheVariants.{Stands, Waits, Gone, Stuck}
+use Rattle.level_phaser.specs.declared.stage.Stage.TheVariants.{Stands, Waits, Gone, Stuck, Closed as WasClosed}
 use Rattle.level_phaser.specs.declared.view.SeatView.{SeatView}
 use Rattle.level_phaser.specs.declared.view.Role.TheVariants.{Came, Stands as StandsIn}
 use Rattle.level_phaser.specs.LevelPhasers.{IsReady, IsFull}
 use Rattle.level_phaser.specs.Deeds.{deeds, kept_in}
 use Rattle.level_phaser.specs.Views.{seated, view_of, first_view, with_role, with_pending, pending_in}
-use Rattle.level_phaser.specs.Seen.{GoneOn, HasKept as KeptSo, HasToldKept, HasSent as SentInto, HasLeft as LeftBy, HasNoRoom, IsReplied}
+use Rattle.level_phaser.specs.Seen.{GoneOn, IsClosed, HasKept as KeptSo, HasToldKept, HasSent as SentInto, HasLeft as LeftBy, HasNoRoom, IsReplied}
 use Rattle.phaser_c.specs.Waiting.{answer_done, answer_seen, value_seen}
 use Rattle.phaser_c.specs.declared.answer.ExportAnswer.{ExportAnswer}
-use Rattle.phaser_c.specs.declared.answer.ExportAnswer.TheVariants.{Done, NotYet, Closed, Open, Refused}
+use Rattle.phaser_c.specs.declared.answer.ExportAnswer.TheVariants.{Done, NotYet, Nothing, Closed, Open, Refused}
 use Rattle.phaser_c.specs.declared.level_task.LevelTask.{LevelTask}
 
 -- a task, as its thread has it
@@ -69,6 +70,7 @@ stands Stands = true
 stands Waits = false
 stands Gone = false
 stands Stuck = false
+stands WasClosed = false
 
 -- the task waits
 abbrev pub waits : Stage → Bool
@@ -76,6 +78,7 @@ waits Stands = false
 waits Waits = true
 waits Gone = false
 waits Stuck = false
+waits WasClosed = false
 
 -- there is a phase after this one
 abbrev pub is_not_last : ℕ → Bool
@@ -103,23 +106,27 @@ HasGoneOn v n = (n.stage ≡ Stands) × GoneOn events registered ready v (view n
 abbrev pub shown : LevelMember → SeatView LevelPhaser
 shown m = with_pending (view m) (kept_in m.task m.kept)
 
--- how a task comes, which keeps no value then: it was the last and has gone on; or it waits; or it was the last, and there
--- is no room for the round
+-- how a task comes: it was the last, has gone on and keeps no value; or it waits; or it was the last, and there is no room
+-- for the round
 abbrev pub CameSo : LevelMember → LevelMember → ExportAnswer → Type 0
 CameSo m n a =
-    (n.kept ≡ None)
-    × (((a ≡ Done) × HasGoneOn (shown m) n)
-    ⊎ (((a ≡ NotYet) × (n.stage ≡ Waits) × (view n ≡ with_role (shown m) Came))
+    ((a ≡ Done) × (n.kept ≡ None) × HasGoneOn (shown m) n)
+    ⊎ ((n.kept ≡ m.kept)
+    × (((a ≡ NotYet) × (n.stage ≡ Waits) × (view n ≡ with_role (shown m) Came))
     ⊎ ((a ≡ Refused HistoryFull) × (n.stage ≡ Stuck) × HasNoRoom events full (view m))))
 
 -- the same; or it may not come
 abbrev pub HasCome : LevelMember → LevelMember → ExportAnswer → Type 0
 HasCome m n a = IfMay (may_come m) CameSo m n a
 
--- how a task looks: it has gone on; or it waits, as before
+-- how a task looks: it has gone on and keeps no value; or it waits, as before; or the table was closed, and it hasn't
+-- signalled
 abbrev pub LookedSo : LevelMember → LevelMember → ExportAnswer → Type 0
 LookedSo m n a =
-    (n.kept ≡ m.kept) × (((a ≡ Done) × HasGoneOn (view m) n) ⊎ ((a ≡ NotYet) × (n.stage ≡ Waits) × (view n ≡ view m)))
+    ((a ≡ Done) × (n.kept ≡ None) × HasGoneOn (view m) n)
+    ⊎ ((n.kept ≡ m.kept) × (view n ≡ view m)
+    × (((a ≡ NotYet) × (n.stage ≡ Waits))
+    ⊎ ((a ≡ Closed) × (n.stage ≡ WasClosed) × IsClosed events registered ready (view m))))
 
 -- the same; or it may not look
 abbrev pub HasLooked : LevelMember → LevelMember → ExportAnswer → Type 0
@@ -197,6 +204,26 @@ abbrev pub IsSeenBy : ℕ → Option LevelMember → Option LevelMember → ℤ 
 IsSeenBy accumulator None new v w a = (a ≡ Closed) × (new ≡ None) × (w ≡ v)
 IsSeenBy accumulator (Some m) new v w a =
     (n : LevelMember) × (new ≡ Some n) × HasSeen (stands m.stage) accumulator v w m n a
+
+-- the value that was kept, and its accumulator; if none was, what was there before
+abbrev pub GivesKept : Option GivenSend → ℕ → ℕ → ℤ → ℤ → ExportAnswer → Type 0
+GivesKept None accumulator accumulator' v w a = (a ≡ Nothing) × (accumulator' ≡ accumulator) × (w ≡ v)
+GivesKept (Some g) accumulator accumulator' v w a = (a ≡ Done) × (accumulator' ≡ g.accumulator) × (w ≡ g.value)
+
+-- how a task gives the value that it keeps, which it keeps no more: if it waits, that is answered. All else is as before
+abbrev pub HasGiven : Bool → ℕ → ℕ → ℤ → ℤ → LevelMember → LevelMember → ExportAnswer → Type 0
+HasGiven true accumulator accumulator' v w m n a =
+    (a ≡ Refused NotNow) × (n ≡ m) × (accumulator' ≡ accumulator) × (w ≡ v)
+HasGiven false accumulator accumulator' v w m n a =
+    IsSame m n × (n.stage ≡ m.stage) × (n.phase ≡ m.phase) × (view n ≡ view m) × (n.kept ≡ None)
+    × GivesKept m.kept accumulator accumulator' v w a
+
+-- the same of what a handle holds
+abbrev pub IsGivenBy : Option LevelMember → Option LevelMember → ℕ → ℕ → ℤ → ℤ → ExportAnswer → Type 0
+IsGivenBy None new accumulator accumulator' v w a =
+    (a ≡ Closed) × (new ≡ None) × (accumulator' ≡ accumulator) × (w ≡ v)
+IsGivenBy (Some m) new accumulator accumulator' v w a =
+    (n : LevelMember) × (new ≡ Some n) × HasGiven (waits m.stage) accumulator accumulator' v w m n a
 
 -- the first task of a phaser
 abbrev pub IsFirst : LevelMember → Type 0

@@ -11,6 +11,7 @@ pub mod Judged
 pub mod JudgedGiven
 pub mod JudgedWhy
 pub mod LevelCalls
+pub mod LevelOpened
 pub mod RoundCalls
 pub mod Rounds
 pub mod Told

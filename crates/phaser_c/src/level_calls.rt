@@ -2,7 +2,7 @@
 //! answered `NotYet`, and is asked again.
 ghost use Rattle.std.specs.Prelude.{◌≡◌};
 ghost use Rattle.phaser_c.specs.Answers.{number_of_answer};
-ghost use Rattle.phaser_c.specs.LevelCalls.{member_of, IsCalledBy, HasCome, HasLooked, HasLeft, HasSent, IsSeenBy};
+ghost use Rattle.phaser_c.specs.LevelCalls.{member_of, IsCalledBy, HasCome, HasLooked, HasLeft, HasSent, IsSeenBy, IsGivenBy};
 ghost use Rattle.phaser_c.specs.declared.answer.ExportAnswer.{ExportAnswer as Answered};
 
 use crate::answer::ExportAnswer;
@@ -85,6 +85,26 @@ pub extern "C" fn phaser_c_level_look_at(
         return ExportAnswer::Closed.number();
     };
     let answer = held.look_at(accumulator, value);
+    task.put(alloc, held);
+    answer.number()
+}
+
+/// `Member::take_kept`.
+#[unsafe(no_mangle)]
+pub extern "C" fn phaser_c_level_kept(
+    alloc: Global,
+    task: &mut LevelHandle,
+    accumulator: &mut u8,
+    value: &mut i32,
+) -> u32
+    ensures { (a : Answered) × (result ≡ number_of_answer a)
+        × IsGivenBy (member_of task.old.state) (member_of task.new.state) accumulator.old accumulator.new
+        value.old value.new a }
+{
+    let Some(mut held) = task.take(alloc) else {
+        return ExportAnswer::Closed.number();
+    };
+    let answer = held.give_kept(accumulator, value);
     task.put(alloc, held);
     answer.number()
 }

@@ -41,7 +41,7 @@ fn first_of(
 }
 
 /// Whether the handle holds a task.
-fn holds_one(alloc: Global, task: &mut LevelHandle) -> bool
+pub(crate) fn holds_one(alloc: Global, task: &mut LevelHandle) -> bool
     ensures one { result ≡ is_some (member_of task.old.state) }
     ensures kept { task.new.state ≡ task.old.state }
 {
@@ -54,7 +54,7 @@ fn holds_one(alloc: Global, task: &mut LevelHandle) -> bool
 }
 
 /// Puts a task into a handle, in this box.
-fn put_in(
+pub(crate) fn put_in(
     alloc: Global,
     task: &mut LevelHandle,
     mut place: Box<LevelTask>,

@@ -1,6 +1,6 @@
 //! A task that stands level with others, as the library keeps it for C, and its calls.
 ghost use Rattle.std.specs.Prelude.{◌≡◌, None};
-ghost use Rattle.phaser_c.specs.LevelCalls.{may_come, may_look, IsCalledBy, HasCome, HasLooked, HasLeft, HasSent, HasSeen, IsSeenBy, stands};
+ghost use Rattle.phaser_c.specs.LevelCalls.{may_come, may_look, IsCalledBy, HasCome, HasLooked, HasLeft, HasSent, HasSeen, IsSeenBy, HasGiven, IsGivenBy, stands, waits};
 
 use crate::answer::ExportAnswer;
 use crate::waiting_tasks::answer_done;
@@ -20,6 +20,13 @@ pub(crate) fn stands(member: &Member<LevelPhaser>) -> bool
     ensures { result ≡ stands member.now.stage }
 {
     member.stage == Stage::Stands
+}
+
+/// Whether the task waits.
+fn waits(member: &Member<LevelPhaser>) -> bool
+    ensures { result ≡ waits member.now.stage }
+{
+    member.stage == Stage::Waits
 }
 
 /// Whether the task stands, and not in the last phase that there is a number for.
@@ -61,6 +68,9 @@ fn look(member: &mut Member<LevelPhaser>) -> ExportAnswer
     }
     if member.look() {
         return ExportAnswer::Done;
+    }
+    if member.stage == Stage::Closed {
+        return ExportAnswer::Closed;
     }
     ExportAnswer::NotYet
 }
@@ -105,6 +115,25 @@ fn look_at(member: &mut Member<LevelPhaser>, accumulator: u8, value: &mut i64) -
         Some(outcome) => give_seen(outcome, value),
         None => ExportAnswer::NotYet,
     }
+}
+
+/// The value that the task keeps, which it keeps no more.
+fn give_kept(
+    member: &mut Member<LevelPhaser>,
+    accumulator: &mut u8,
+    value: &mut i32,
+) -> ExportAnswer
+    ensures { HasGiven (waits member.old.stage) accumulator.old accumulator.new value.old value.new member.old member.new result }
+{
+    if waits(member) {
+        return ExportAnswer::Refused(Refusal::NotNow);
+    }
+    let Some(sent) = member.take_kept() else {
+        return ExportAnswer::Nothing;
+    };
+    *accumulator = sent.accumulator;
+    *value = sent.value;
+    ExportAnswer::Done
 }
 
 impl LevelTask {
@@ -164,6 +193,16 @@ impl LevelTask {
     {
         match &mut self.member {
             Some(member) => look_at(member, accumulator, value),
+            None => ExportAnswer::Closed,
+        }
+    }
+
+    /// The value that the task keeps is given.
+    pub(crate) fn give_kept(&mut self, accumulator: &mut u8, value: &mut i32) -> ExportAnswer
+        ensures { IsGivenBy self.old.member self.new.member accumulator.old accumulator.new value.old value.new result }
+    {
+        match &mut self.member {
+            Some(member) => give_kept(member, accumulator, value),
             None => ExportAnswer::Closed,
         }
     }

@@ -40,7 +40,7 @@ fn are_level(state: &LongPhaser, tasks: &[LongTask], phase: Phase) -> bool
 
 impl Waiting {
     /// The phase in which all these tasks stand level, if they do and nobody is parked.
-    fn level_of(&self, tasks: &[LongTask]) -> Option<Phase>
+    pub(crate) fn level_of(&self, tasks: &[LongTask]) -> Option<Phase>
         ensures { result ≡ level_of tasks.now self.now.cell }
     {
         let LongCell { state, parked } = &self.cell;

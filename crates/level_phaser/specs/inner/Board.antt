@@ -1,6 +1,7 @@
 -- The rule of the table: what holds between any two steps, whichever threads make them.
 -- Word 0 counts the tasks that haven't come in the phase in which all stand, and is greater by `busy` while
--- somebody holds what is shared. Word 16 is the number of rounds whose tasks may go on. From word 24 on each accumulator
+-- somebody holds what is shared. Word 16 is the number of rounds whose tasks may go on. Word 17 is 0, or 1 more than the
+-- phase in which the table was closed. From word 24 on each accumulator
 -- has a word, which `Folds` tells of. From word 32 on each task below
 -- 256 has a row of eight words. In the first of them it shows a value that it sends.
 use Rattle.std.specs.Prelude.{◌*◌, ◌/◌, ◌%◌, zero, suc, ◌≡◌, ◌⊎◌, ℕ, ◌+◌, ◌<◌, ◌≤◌, ◌==◌, if◌then◌else◌, Bool, true, List, [], ◌∷◌, length, slice_index}
@@ -19,7 +20,7 @@ use Rattle.phase_model.specs.declared.call.Call.{Call}
 use Rattle.phase_model.specs.Replies.{Reply}
 use Rattle.level_phaser.specs.inner.Folds.{Begins}
 use Rattle.level_phaser.specs.Deeds.{deeds_of, with_signal, with_sends}
-use Rattle.level_phaser.specs.Views.{signalled, view_of}
+use Rattle.level_phaser.specs.Views.{signalled, view_of, idle_view, opening_view}
 
 -- while somebody holds what is shared, word 0 is greater by this
 abbrev pub busy : ℕ
@@ -141,6 +142,21 @@ module _ {S : Type 0} where
     Homes word value homes =
         ((homes ≡ some value ∷ []) × (word < busy)) ⊎ ((homes ≡ none ∷ []) × ((word ≡ 0) ⊎ (busy ≤ word)))
 
+  -- nobody has closed the table, or it was closed in this phase: then a seat without tasks holds the value, and never gives
+  -- it back
+  abbrev pub IsShut : ℕ → ℕ → List (SeatView S) → Type 0
+  IsShut word phase views =
+      (word ≡ 0)
+      ⊎ ((word ≡ phase + 1) × (i : ℕ) × (v : SeatView S) × (x : S)
+      × (get_elem? views i ≡ some v) × (v.role ≡ Holder x) × (v.tasks ≡ []))
+
+  -- the table isn't open yet: only who made it has a seat, all words are 0, and the value is at home or with that seat
+  abbrev pub IsUnopened : State S (SeatView S) → Type 0
+  IsUnopened s =
+      (length s.words ≡ 2080) × ((i : ℕ) → slice_index s.words i ≡ 0)
+      × (((x : S) × (s.homes ≡ some x ∷ []) × (s.views ≡ idle_view ∷ []))
+      ⊎ ((s.homes ≡ none ∷ []) × (s.views ≡ opening_view ∷ [])))
+
   module _ (events : S → List Event) (registered : ℕ → S → Bool) (count : S → ℕ) (width : S → ℕ)
       (replies : S → Call → Reply) (ready : ℕ → S → Type 0) where
     -- there are a phase and a value that all seats fit, and the words are as above
@@ -155,9 +171,14 @@ module _ {S : Type 0} where
       pub small : count value < 4294967296
       pub word : slice_index s.words 0 ≡ total (missing phase) s.views + (if held then busy else 0)
       pub over : slice_index s.words 16 ≤ phase
+      pub shut : IsShut (slice_index s.words 17) phase s.views
       pub home : Homes events registered count width ready (slice_index s.words 0) value s.homes
       pub each : (i : ℕ) (v : SeatView S) → get_elem? s.views i ≡ some v
           → Fits events registered count width ready seat phase (slice_index s.words 0) value holder i v
       pub rows : Rows (width value) s.words s.views
       pub begins : Begins events registered replies ready width phase s.words s.views value
       pub stands : ready phase value
+
+    -- the table isn't open yet, or it is as above
+    abbrev pub IsBoard : State S (SeatView S) → Type 0
+    IsBoard s = IsUnopened s ⊎ IsLevel s

@@ -6,9 +6,10 @@ use Rattle.phase_model.specs.declared.history.Event.{Event}
 use Rattle.level_phaser.specs.declared.view.SeatView.{SeatView}
 use Rattle.level_phaser.specs.declared.view.Role.TheVariants.{Stands, Came, Last, Holder, Gone}
 use Rattle.level_phaser.specs.Deeds.{deeds}
-use Rattle.level_phaser.specs.Views.{seated, seated_as, view_of, with_role, with_pending, with_seen, without_tasks}
+use Rattle.level_phaser.specs.Views.{seats_in, opening_view, seated, seated_as, view_of, with_role, with_pending, with_seen, without_tasks}
 use Rattle.level_phaser.specs.inner.Board.{busy, sent_in, IsSound}
-use Rattle.level_phaser.specs.Seen.{AreSeated, GoneOn, IsReplied}
+use Rattle.level_phaser.specs.inner.Keeping.{HasSeized}
+use Rattle.level_phaser.specs.Seen.{AreSeated, GoneOn, IsClosed, IsReplied}
 use Rattle.level_phaser.specs.declared.view.Deeds.{Deeds}
 use Rattle.level_phaser.specs.inner.Folds.{fold_in}
 use Rattle.phase_model.specs.declared.call.Call.{Call}
@@ -42,6 +43,22 @@ IsLast {S} events ready phase m =
     × IsTail m.0.seen (events took.0)
     × (length took.1 ≡ 2080)
 
+-- who made the table has the value that nobody uses
+abbrev pub taken : {S : Type 0} → Step S → M S → ℕ → M S → Type 0
+taken {S} st m n m' = (x : S) × (m' ≡ (opening_view, (0, x) ∷ []))
+
+-- it has given back another value, all of whose tasks stand in the seat, and has seen the history
+abbrev pub opened : {S : Type 0} → (S → List Event) → (S → ℕ) → (S → List ℕ) → (ℕ → S → Type 0)
+    → Step S → M S → ℕ → M S → Type 0
+opened {S} events width tasks ready st m n m' =
+    (y : S) → m.1 ≡ (0, y) ∷ []
+    → (p : ℕ) × ready p y × (m' ≡ (view_of (seats_in (events y) (tasks y)) p Stands (events y) 0 (width y), []))
+
+-- if the word was as expected the keeper has what is shared
+abbrev pub seized : {S : Type 0} → (S → List Event) → (S → ℕ) → (ℕ → S → Type 0) → Step S → M S → ℕ → M S → Type 0
+seized {S} events count ready st m n m' =
+    (n ≡ st.first → HasSeized events count ready m m') × (n ≢ st.first → m' ≡ m)
+
 module _ {S : Type 0} (events : S → List Event) (registered : ℕ → S → Bool) (width : S → ℕ) (newest : S → ℕ)
     (replies : S → Call → Reply) (ready : ℕ → S → Type 0) where
   -- who comes last has what is shared
@@ -57,6 +74,13 @@ module _ {S : Type 0} (events : S → List Event) (registered : ℕ → S → Bo
   abbrev pub looked : Step S → M S → ℕ → M S → Type 0
   looked st m n m' =
       (m.0.phase < n → GoneOn events registered ready m.0 m'.0 × (m'.1 ≡ m.1)) × (n ≤ m.0.phase → m' ≡ m)
+
+  -- the table isn't closed if the word is 0. If it is, the word is 1 more than the phase: then the round of the seat's
+  -- phase is over, or the seat's tasks haven't signalled in it
+  abbrev pub looked_shut : Step S → M S → ℕ → M S → Type 0
+  looked_shut st m n m' =
+      (m.0.phase + 1 < n → GoneOn events registered ready m.0 m'.0 × (m'.1 ≡ m.1))
+      × (n ≤ m.0.phase + 1 → (m' ≡ m) × (0 < n → IsClosed events registered ready m.0))
 
   -- the last has made the round, and given back what is shared
   abbrev pub ended : Step S → M S → ℕ → M S → Type 0

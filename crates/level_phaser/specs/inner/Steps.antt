@@ -9,9 +9,9 @@ use Rattle.level_phaser.specs.declared.view.Role.{Role}
 use Rattle.level_phaser.specs.declared.view.Role.TheVariants as role
 use Rattle.level_phaser.specs.declared.view.SeatView.{SeatView}
 use Rattle.level_phaser.specs.declared.stage.Stage.{Stage}
-use Rattle.level_phaser.specs.declared.stage.Stage.TheVariants.{Stands, Waits, Gone, Stuck}
+use Rattle.level_phaser.specs.declared.stage.Stage.TheVariants.{Stands, Waits, Gone, Stuck, Closed}
 use Rattle.level_phaser.specs.Deeds.{deeds}
-use Rattle.level_phaser.specs.Views.{seated_as, pending_in, fresh_in}
+use Rattle.level_phaser.specs.Views.{seated_as, pending_in, fresh_in, role_after, view_of}
 use Rattle.level_phaser.specs.inner.Board.{with_tasks}
 
 -- the table has room for two words in lines of memory of their own, the rows, and one value
@@ -39,8 +39,18 @@ tasks_of Stands task done es fresh = seated_as task done es fresh ∷ []
 tasks_of Waits task done es fresh = seated_as task done es fresh ∷ []
 tasks_of Gone task done es fresh = []
 tasks_of Stuck task done es fresh = []
+tasks_of Closed task done es fresh = seated_as task done es fresh ∷ []
+
+-- none of them is this task
+abbrev pub Without : ℕ → List SeatedTask → Type 0
+Without t [] = Unit {0}
+Without t (c ∷ cs) = (c.task ≢ t) × Without t cs
 
 module _ {S : Type 0} where
+  -- the view of a seat once the first of its tasks has another
+  abbrev pub rest_of : SeatView S → SeatView S
+  rest_of v = view_of (tail_of v.tasks) v.phase (role_after (tail_of v.tasks)) v.seen v.heard v.width
+
   -- the view of a seat for the first of its tasks
   abbrev pub first_of : SeatView S → SeatView S
   first_of v = with_tasks v (head_of v.tasks)
@@ -55,6 +65,7 @@ module _ {S : Type 0} where
   role_of Waits = role.Came
   role_of Gone = role.Gone
   role_of Stuck = role.Gone
+  role_of Closed = role.Came
 
   -- the seat is of this task and in this phase, and holds nothing; the task's row shows something only if it is said; nothing is known of a task that is stuck
   abbrev pub InStage : Stage → ℕ → ℕ → ℕ → Bool → Bool → Me S (SeatView S) → Type 0

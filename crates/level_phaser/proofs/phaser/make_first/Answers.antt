@@ -7,6 +7,8 @@ use Rattle.phase_model.specs.Laws.{IsLegal}
 use Rattle.level_phaser.specs.inner.Stories.{Joined}
 use Rattle.level_phaser.proofs.Answered.{done_event}
 use Rattle.level_phaser.proofs.Joins.{made_level}
+use Rattle.phase_model.specs.Replies.{reply}
+use Rattle.level_phaser.proofs.Answered.{same_limits}
 use Rattle.level_phaser.proofs.phaser.make_first.Goals as goal
 
 pub returns-clause-some : goal.returns-clause-some
@@ -23,3 +25,13 @@ returns-clause-some c =
       legal,
       ok.next,
     )
+
+pub returns-clause-limits : goal.returns-clause-limits
+returns-clause-limits c =
+    let s = c.args.phaser.now.story in
+    ap (λ (z : Story). z.limits) c.make.ensures.history ∙ same_limits s (reply s (make c.args.phaser.now.next SigWait))
+
+pub returns-in_default-clause-limits : goal.returns-in_default-clause-limits
+returns-in_default-clause-limits c =
+    let s = c.args.phaser.now.story in
+    ap (λ (z : Story). z.limits) c.make.ensures.history ∙ same_limits s (reply s (make c.args.phaser.now.next SigWait))

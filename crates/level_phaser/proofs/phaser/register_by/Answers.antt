@@ -8,6 +8,7 @@ use Rattle.phase_model.specs.Laws.{IsLegal}
 use Rattle.level_phaser.specs.inner.Stories.{Joined}
 use Rattle.level_phaser.proofs.Answered.{done_event, refused_kept}
 use Rattle.level_phaser.proofs.Joins.{joined_level}
+use Rattle.level_phaser.proofs.Answered.{same_limits}
 use Rattle.level_phaser.proofs.phaser.register_by.Goals as goal
 
 pub returns-in_default-clause-none : goal.returns-in_default-clause-none
@@ -35,3 +36,15 @@ returns-clause-some c =
       legal,
       ok.next,
     )
+
+pub returns-clause-limits : goal.returns-clause-limits
+returns-clause-limits c =
+    let s = c.args.phaser.now.story in
+    ap (λ (z : Story). z.limits) c.register.ensures.history
+    ∙ same_limits s (reply s (register c.args.parent c.args.phaser.now.next SigWait))
+
+pub returns-in_default-clause-limits : goal.returns-in_default-clause-limits
+returns-in_default-clause-limits c =
+    let s = c.args.phaser.now.story in
+    ap (λ (z : Story). z.limits) c.register.ensures.history
+    ∙ same_limits s (reply s (register c.args.parent c.args.phaser.now.next SigWait))

@@ -3,6 +3,9 @@ use Rattle.std.proofs.lemmas.Bool.{false≢true}
 use Rattle.phase_model.specs.Rules.{Story}
 use Rattle.level_phaser.specs.Rounds.{Round}
 use Rattle.level_phaser.proofs.Turned.{round_is, round_has_room}
+use Rattle.std.proofs.Common.{[], true}
+use Rattle.level_phaser.specs.Rounds.{round_calls}
+use Rattle.level_phaser.proofs.Turned.{calls_limits}
 use Rattle.level_phaser.proofs.phaser.turn_all.Goals as goal
 
 pub returns-clause-made : goal.returns-clause-made
@@ -46,3 +49,9 @@ returns-then-limits-len-lt-ROOM-clause-full c _ =
     ∙ ap (λ (z : Story). length z.past) c.history-told.ensures.history in
     let small = c.if-limits-len-lt-ROOM.true in
     omega arith
+
+pub returns-clause-limits : goal.returns-clause-limits
+returns-clause-limits c =
+    let s = c.args.phaser.now.story in
+    ap (λ (r : Round). r.story.limits) c.make_round-course.ensures.calls
+    ∙ calls_limits c.args.phase (record { story = s; made = 0; is_whole = true }) (round_calls [] c.args.tasks.now)

@@ -10,5 +10,5 @@ compare_exchange-requires g c =
       c.requires.table.0,
       subst (λ (n : ℕ). 0 < n) (sym c.requires.table.1.0) (omega arith),
       claims L.events L.registered L.count L.width L.newest L.replies L.ready _ _ _ _ _ (omega arith) less refl
-          c.requires.stands.0 c.requires.stands.1,
+          c.requires.stands.0 c.requires.stands.2 c.requires.stands.1,
     )

@@ -11,6 +11,8 @@ use Rattle.level_phaser.proofs.Puts.{finds, sound_more, sound_names}
 use Rattle.level_phaser.proofs.Rows.{beyond_last}
 use Rattle.level_phaser.proofs.Stages.{lent}
 use Rattle.level_phaser.proofs.Tellings.{far_quiet, far_sent, tells_on}
+use Rattle.level_phaser.specs.declared.view.Role.TheVariants.{Last}
+use Rattle.level_phaser.proofs.Keeps.{is_in}
 use Rattle.level_phaser.proofs.steps.tell_row.Goals as goal
 
 pub returns-then-task-ge-MOST_ROWS-clause-tells : goal.returns-then-task-ge-MOST_ROWS-clause-tells
@@ -36,7 +38,8 @@ load-word-requires g c =
     let low = c.if-task-ge-MOST_ROWS.false in (
       c.requires.table.0,
       subst (λ (n : ℕ). 32 + 8 * c.in-Some.task < n) (sym c.requires.table.1.0) (omega arith),
-      finds L.events L.registered L.count L.width L.newest L.replies L.ready _ _ c.in-Some.task _,
+      finds L.events L.registered L.count L.width L.newest L.replies L.ready _ _ c.in-Some.task _
+          (is_in c.args.seat.now.me.0 (Last c.requires.tells.begun c.requires.tells.found) c.requires.tells.role tt),
     )
 
 pub returns-then-word-eq0-clause-tells : goal.returns-then-word-eq0-clause-tells

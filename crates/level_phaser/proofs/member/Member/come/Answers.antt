@@ -1,10 +1,10 @@
-use Rattle.std.proofs.Common.{rules, ℕ, ◌+◌, List, length, inr, refl, sym, ap, ◌∙◌, subst}
+use Rattle.std.proofs.Common.{rules, arith, ℕ, ◌+◌, ◌<◌, List, length, inr, refl, sym, ap, ◌∙◌, subst}
 use Rattle.told_history.specs.Tails.{IsTail}
 use Rattle.phase_model.specs.declared.history.Event.{Event}
 use Rattle.level_phaser.specs.declared.view.SeatedTask.{SeatedTask}
 use Rattle.level_phaser.specs.Deeds.{kept_in}
 use Rattle.level_phaser.specs.Seen.{AreSeated}
-use Rattle.level_phaser.specs.Views.{role_after, gone_on, showing}
+use Rattle.level_phaser.specs.Views.{role_after, gone_on, showing, signalled}
 use Rattle.level_phaser.proofs.Coming.{comes, raises}
 use Rattle.level_phaser.proofs.Stages.{stood}
 use Rattle.level_phaser.proofs.member.Member.come.Goals as goal
@@ -54,6 +54,7 @@ store-requires g c =
       search rules,
       raises L.events L.registered L.count L.width L.newest L.replies L.ready _ _ _ _ (ap (λ v. v.role) gone.1
           ∙ ap (λ cs. role_after cs) tasks)
+          (subst (λ (n : ℕ). 0 < n) (sym (ap length (ap (λ v. v.tasks) gone.1 ∙ ap signalled tasks))) (omega arith))
           (sym (ap (λ v. v.phase) gone.1 ∙ ap (λ (n : ℕ). n + 1) (ap (λ m. m.0.phase) is
           ∙ ap (λ m. m.0.phase) shown ∙ at.1))),
     )

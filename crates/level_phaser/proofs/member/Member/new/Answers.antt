@@ -12,6 +12,7 @@ new-requires g c = let j = c.in-Some.ensures.joined in
     (first_of (search rules, grind (arith, common_steps)))
     (first_of (search rules, grind (arith, common_steps)))
     (first_of (search rules, grind (arith, common_steps)))
+    (others_clear _ _ 2080 c.as_slice.ensures.value (search rules) 17 (omega arith) (omega arith))
     (first_of (search rules, grind (arith, common_steps)))
     j.0.3 j.0.4 one c.in-Some.ensures.ready (c.width-width.ensures.0 ∙ sym j.0.6)
     (rows_clear _ _ 2080 c.as_slice.ensures.value (search rules))

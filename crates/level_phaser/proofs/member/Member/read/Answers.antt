@@ -1,16 +1,21 @@
-use Rattle.std.proofs.Common.{rules, ◌≡◌, ◌∷◌, [], true, Bool, refl, sym, ◌∙◌, subst, arith}
+use Rattle.std.proofs.Common.{rules, ◌≡◌, ◌≢◌, ◌∷◌, [], true, Bool, refl, sym, ◌∙◌, subst, arith}
 use Rattle.level_phaser.specs.Views.{pending_in, seated_as}
 use Rattle.level_phaser.specs.inner.Steps.{deeds_in}
 use Rattle.level_phaser.proofs.Foldings.{fetches}
-use Rattle.level_phaser.proofs.Stages.{stood, if_some}
+use Rattle.level_phaser.proofs.Stages.{stood, inside, if_some}
+use Rattle.level_phaser.specs.declared.stage.Stage.{Stage}
+use Rattle.level_phaser.specs.declared.stage.Stage.TheVariants.{Stuck}
 use Rattle.level_phaser.proofs.member.Member.read.Goals as goal
 
 pub load-word-requires : goal.load-word-requires
 load-word-requires g c =
-    let L = g.S.LevelState in (
+    let L = g.S.LevelState in
+    let me = c.args.self.now in (
       search rules,
       search rules,
-      fetches L.events L.registered L.count L.width L.newest L.replies L.ready _ _ c.args.accumulator _,
+      fetches L.events L.registered L.count L.width L.newest L.replies L.ready _ _ c.args.accumulator _
+          (inside me.stage me.task me.phase me.width me.is_shown me.is_fresh me.seat.me
+          (subst (λ (z : Stage). z ≢ Stuck) (sym c.requires) (λ e. cc)) me.stands),
     )
 
 pub returns-clause-seen : goal.returns-clause-seen

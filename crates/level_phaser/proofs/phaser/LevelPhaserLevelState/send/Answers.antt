@@ -4,9 +4,11 @@ use Rattle.phase_model.specs.declared.call.Call.TheVariants.{Send as send}
 use Rattle.phase_model.specs.declared.terms.Terms.{Terms}
 use Rattle.phase_model.specs.Rules.{Story}
 use Rattle.phase_model.specs.Replies.{reply}
-use Rattle.level_phaser.proofs.Answered.{refused_kept, same_terms}
+use Rattle.level_phaser.proofs.Answered.{refused_kept, same_terms, same_limits}
 use Rattle.level_phaser.proofs.Refused.{full_if_refused}
 use Rattle.level_phaser.proofs.Sends.{sent_level, kept_level}
+use Rattle.phase_modes.specs.declared.limits.Limits.{Limits}
+use Rattle.phase_modes.specs.Limits.{is_between}
 use Rattle.level_phaser.proofs.phaser.LevelPhaserLevelState.send.Goals as goal
 
 pub returns-in-Ok-clause-sent : goal.returns-in-Ok-clause-sent
@@ -66,3 +68,11 @@ returns-in-Err-clause-full c live names =
     let len = d.tasks.ok in
     full_if_refused c.args.phase d.tasks.items d.phaser.story c.args.task c.args.accumulator _ _ c.requires.ready live names
     (subst (λ (n : ℕ). n ≤ 256) d.tasks.ok.0 d.few) (sym c.in-Err.ensures.reply)
+
+pub invariant_of-self : goal.invariant_of-self
+invariant_of-self c =
+    let d = c.args.self.now in record {
+      few = d.few;
+      regs = ap (λ (z : Story). is_between 1 z.limits.regs 256) c.send-outcome.ensures.history
+          ∙ ap (λ (l : Limits). is_between 1 l.regs 256) (same_limits d.phaser.story (reply d.phaser.story (send c.args.task c.args.accumulator _))) ∙ d.regs;
+    }
