@@ -6,6 +6,9 @@
  *   Who is let go looks whether all have come that were there, and at the sum. Threads begin one by one, each with a task
  *   that joins by another's.
  * level crowd THREADS PHASES: the same, with visitors: threads whose tasks join by others, turn some phases, and leave.
+ * level changes THREADS PHASES: threads turn phases, while one more opens the barrier to calls without a lock, and closes it,
+ *   again and again. While it is closed each thread tells its own call under a lock. All else is as in turns, but that all
+ *   threads are there from the start.
  * Status 4: something wasn't as it must be, which standard error names. Status 5: there was no thread, or no memory. */
 #define _GNU_SOURCE
 #include "../include/paldwosk.h"
@@ -175,6 +178,150 @@ static void in_turn(void) {
   let_free(&c);
 }
 
+/* A phaser of a sum, whose three tasks 0, 1 and 2 are registered SIG_WAIT, by who waits at it. */
+static void make_three(paldwosk_waiting *phaser) {
+  const uint32_t sum[] = {PALDWOSK_SUM};
+  uint64_t task = 9;
+  ANSWERS(phaser_c_waiting_new(phaser, sum, 1, 2), PALDWOSK_DONE);
+  ANSWERS(phaser_c_waiting_make(phaser, PALDWOSK_SIG_WAIT, &task), PALDWOSK_DONE);
+  MUST(task == 0);
+  for (uint64_t number = 1; number < 3; number++) {
+    ANSWERS(phaser_c_waiting_register(phaser, 0, PALDWOSK_SIG_WAIT, &task), PALDWOSK_DONE);
+    MUST(task == number);
+  }
+}
+
+/* The handles hold none, or one already; these aren't all tasks, or one is there twice; one has signalled; one waits. */
+static void refused_to_open(void) {
+  paldwosk_level level = {NULL}, other = {NULL};
+  paldwosk_waiting phaser = {NULL}, empty = {NULL};
+  paldwosk_level_task task = {NULL}, none = {NULL};
+  paldwosk_freed freed[256];
+  const uint64_t three[] = {2, 0, 1}, twice[] = {0, 1, 1}, four[] = {0, 1, 2, 3}, strange[] = {0, 1, 3};
+  uint64_t phase = 7, sig = 0;
+  size_t count = 0;
+  uint8_t accumulator = 7;
+  int32_t value = 7;
+  ANSWERS(phaser_c_level_open(&level, &phaser, three, 3), PALDWOSK_CLOSED);
+  ANSWERS(phaser_c_level_take(&level, &task), PALDWOSK_CLOSED);
+  ANSWERS(phaser_c_level_close(&level, &phaser), PALDWOSK_CLOSED);
+  ANSWERS(phaser_c_level_kept(&none, &accumulator, &value), PALDWOSK_CLOSED);
+  phaser_c_level_drop(&level);
+  make_three(&phaser);
+  ANSWERS(phaser_c_level_open(&level, &phaser, three, 2), PALDWOSK_NOT_NOW);
+  ANSWERS(phaser_c_level_open(&level, &phaser, NULL, 0), PALDWOSK_NOT_NOW);
+  ANSWERS(phaser_c_level_open(&level, &phaser, twice, 3), PALDWOSK_NOT_NOW);
+  ANSWERS(phaser_c_level_open(&level, &phaser, four, 4), PALDWOSK_NOT_NOW);
+  ANSWERS(phaser_c_level_open(&level, &phaser, strange, 3), PALDWOSK_NOT_NOW);
+  MUST(!level.held);
+  ANSWERS(phaser_c_waiting_register(&phaser, 0, PALDWOSK_SIG, &sig), PALDWOSK_DONE);
+  ANSWERS(phaser_c_level_open(&level, &phaser, four, 4), PALDWOSK_NOT_NOW);
+  ANSWERS(phaser_c_level_open(&level, &phaser, three, 3), PALDWOSK_NOT_NOW);
+  ANSWERS(phaser_c_waiting_leave(&phaser, sig, freed, 256, &count), PALDWOSK_DONE);
+  ANSWERS(phaser_c_waiting_signal(&phaser, 1, freed, 256, &count), PALDWOSK_DONE);
+  ANSWERS(phaser_c_level_open(&level, &phaser, three, 3), PALDWOSK_NOT_NOW);
+  ANSWERS(phaser_c_waiting_pass(&phaser, 1, &phase, freed, 256, &count), PALDWOSK_NOT_YET);
+  ANSWERS(phaser_c_level_open(&level, &phaser, three, 3), PALDWOSK_NOT_NOW);
+  for (uint64_t at = 0; at < 3; at += 2) {
+    ANSWERS(phaser_c_waiting_next(&phaser, at, &phase, freed, 256, &count), at ? PALDWOSK_DONE : PALDWOSK_NOT_YET);
+    MUST(count == (at ? 2 : 0));
+  }
+  ANSWERS(phaser_c_level_open(&level, &phaser, three, 3), PALDWOSK_DONE);
+  MUST(level.held);
+  ANSWERS(phaser_c_waiting_send(&phaser, 0, 0, 1), PALDWOSK_CLOSED);
+  ANSWERS(phaser_c_level_open(&level, &phaser, three, 3), PALDWOSK_OPEN);
+  ANSWERS(phaser_c_level_open(&other, &phaser, three, 3), PALDWOSK_CLOSED);
+  make_three(&empty);
+  ANSWERS(phaser_c_level_close(&level, &empty), PALDWOSK_OPEN);
+  ANSWERS(phaser_c_level_close(&level, &phaser), PALDWOSK_DONE);
+  MUST(!level.held);
+  ANSWERS(phaser_c_level_open(&level, &phaser, three, 3), PALDWOSK_DONE);
+  phaser_c_level_drop(&level);
+  phaser_c_level_drop(&level);
+  MUST(!level.held);
+  enter(), phaser_c_waiting_free(&empty), leave();
+}
+
+/* From slow to fast and back: three tasks, in the order 2, 0, 1. In phase 0 they send 5, 7 and -2 fast. In phase 1 two of
+ * them come, and have sent 1 and, twice, 10; then the table is closed. What they kept is sent again by who waits. */
+static void open_and_close(void) {
+  paldwosk_level level = {NULL};
+  paldwosk_waiting phaser = {NULL};
+  paldwosk_level_task tasks[3] = {{NULL}, {NULL}, {NULL}}, more = {NULL};
+  paldwosk_freed freed[256];
+  const uint64_t order[] = {2, 0, 1};
+  const int32_t first[] = {5, 7, -2};
+  uint64_t phase = 7;
+  size_t count = 0;
+  uint8_t accumulator = 7;
+  int32_t value = 7;
+  int64_t seen = 7;
+  make_three(&phaser);
+  ANSWERS(phaser_c_level_open(&level, &phaser, order, 3), PALDWOSK_DONE);
+  for (int at = 0; at < 3; at++) ANSWERS(phaser_c_level_take(&level, &tasks[at]), PALDWOSK_DONE);
+  ANSWERS(phaser_c_level_take(&level, &tasks[0]), PALDWOSK_OPEN);
+  ANSWERS(phaser_c_level_take(&level, &more), PALDWOSK_NOT_NOW);
+  MUST(!more.held);
+  for (int at = 0; at < 3; at++) {
+    ANSWERS(phaser_c_level_look_at(&tasks[at], 0, &seen), PALDWOSK_NO_PHASE_YET);
+    ANSWERS(phaser_c_level_send(&tasks[at], 0, first[at]), PALDWOSK_DONE);
+    ANSWERS(phaser_c_level_come(&tasks[at]), at < 2 ? PALDWOSK_NOT_YET : PALDWOSK_DONE);
+  }
+  ANSWERS(phaser_c_level_look(&tasks[1]), PALDWOSK_DONE);
+  see(&tasks[1], 0, 10);
+  see(&tasks[2], 0, 10);
+  /* The first hears of it only once the table is closed, in phase 1. */
+  ANSWERS(phaser_c_level_send(&tasks[1], 0, 1), PALDWOSK_DONE);
+  ANSWERS(phaser_c_level_come(&tasks[1]), PALDWOSK_NOT_YET);
+  ANSWERS(phaser_c_level_send(&tasks[2], 0, 10), PALDWOSK_DONE);
+  ANSWERS(phaser_c_level_send(&tasks[2], 0, 10), PALDWOSK_DONE); /* the phaser is told this one at once */
+  ANSWERS(phaser_c_level_kept(&tasks[1], &accumulator, &value), PALDWOSK_NOT_NOW);
+  ANSWERS(phaser_c_level_close(&level, &phaser), PALDWOSK_DONE);
+  MUST(!level.held && phaser.held);
+  ANSWERS(phaser_c_level_look(&tasks[0]), PALDWOSK_DONE);
+  ANSWERS(phaser_c_level_kept(&tasks[0], &accumulator, &value), PALDWOSK_NOTHING);
+  ANSWERS(phaser_c_level_look(&tasks[1]), PALDWOSK_CLOSED);
+  ANSWERS(phaser_c_level_look(&tasks[1]), PALDWOSK_NOT_NOW);
+  MUST(accumulator == 7 && value == 7);
+  ANSWERS(phaser_c_level_kept(&tasks[1], &accumulator, &value), PALDWOSK_DONE);
+  MUST(accumulator == 0 && value == 1);
+  ANSWERS(phaser_c_level_kept(&tasks[1], &accumulator, &value), PALDWOSK_NOTHING);
+  ANSWERS(phaser_c_level_come(&tasks[2]), PALDWOSK_NOT_YET);
+  ANSWERS(phaser_c_level_look(&tasks[2]), PALDWOSK_CLOSED);
+  ANSWERS(phaser_c_level_kept(&tasks[2], &accumulator, &value), PALDWOSK_DONE);
+  MUST(accumulator == 0 && value == 10);
+  ANSWERS(phaser_c_level_join(&tasks[0], &more), PALDWOSK_NOT_YET);
+  ANSWERS(phaser_c_level_leave(&tasks[0]), PALDWOSK_NOT_YET);
+  MUST(!more.held);
+  for (int at = 0; at < 3; at++) let_free(&tasks[at]);
+  /* Slow again: all three stand in phase 1, and 10 was sent in it. */
+  ANSWERS(phaser_c_waiting_level(&phaser, order, 3, &phase), PALDWOSK_DONE);
+  MUST(phase == 1);
+  for (int at = 1; at < 3; at++)
+    ANSWERS(phaser_c_waiting_send(&phaser, order[at], 0, at == 1 ? 1 : 10), PALDWOSK_DONE);
+  for (uint64_t at = 0; at < 3; at++)
+    ANSWERS(phaser_c_waiting_next(&phaser, at, &phase, freed, 256, &count), at < 2 ? PALDWOSK_NOT_YET : PALDWOSK_DONE);
+  MUST(phase == 1 && count == 2);
+  ANSWERS(phaser_c_waiting_look(&phaser, 0, 0, &seen), PALDWOSK_DONE);
+  MUST(seen == 21);
+  /* Fast again, in phase 2, which one task leaves; closed while all but one have come, and freed so. */
+  ANSWERS(phaser_c_level_open(&level, &phaser, order, 3), PALDWOSK_DONE);
+  for (int at = 0; at < 3; at++) ANSWERS(phaser_c_level_take(&level, &tasks[at]), PALDWOSK_DONE);
+  see(&tasks[0], 0, 21);
+  ANSWERS(phaser_c_level_leave(&tasks[1]), PALDWOSK_DONE);
+  ANSWERS(phaser_c_level_join(&tasks[2], &more), PALDWOSK_DONE);
+  ANSWERS(phaser_c_level_come(&tasks[0]), PALDWOSK_NOT_YET);
+  ANSWERS(phaser_c_level_come(&more), PALDWOSK_NOT_YET);
+  ANSWERS(phaser_c_level_close(&level, &phaser), PALDWOSK_DONE);
+  const uint64_t now[] = {3, 2, 1};
+  ANSWERS(phaser_c_waiting_level(&phaser, now, 3, &phase), PALDWOSK_DONE);
+  MUST(phase == 2);
+  ANSWERS(phaser_c_waiting_leave(&phaser, 0, freed, 256, &count), PALDWOSK_NOT_REGISTERED);
+  for (int at = 0; at < 3; at++) let_free(&tasks[at]);
+  let_free(&more);
+  enter(), phaser_c_waiting_free(&phaser), leave();
+}
+
 /* 256 tasks are there at most; once one has left another may join. */
 static void most_tasks(void) {
   static paldwosk_level_task tasks[257];
@@ -320,16 +467,241 @@ static void turn_phases(void) {
   free(there), free(came);
 }
 
+/* ---- Threads, while the barrier is opened and closed */
+
+/* A task of a barrier that is opened and closed. */
+typedef struct player {
+  paldwosk_level_task task;    /* its thread's alone */
+  paldwosk_level_task *given;  /* what was left for it when the barrier was opened; passed on by an exchange */
+  long coming;                 /* 1 more than the phase in which it comes; 0 once it knows how that ended */
+  int is_counted;              /* under the lock: others wait until it has told its call */
+  int is_freed;                /* another's call has ended its wait */
+  pthread_t thread;
+  int number;
+} player;
+
+static player players[MOST];
+static pthread_mutex_t lock = PTHREAD_MUTEX_INITIALIZER;
+static paldwosk_level keeper;
+static paldwosk_waiting slow_phaser;
+static int is_slow = 1, wants_slow, untold;
+static long changes;
+static uint64_t numbers[MOST];
+
+static int flag(const int *it) { return __atomic_load_n(it, __ATOMIC_SEQ_CST); }
+
+static void raise_flag(int *it, int to) { __atomic_store_n(it, to, __ATOMIC_SEQ_CST); }
+
+static void let_given(player *it, paldwosk_level_task *new) {
+  paldwosk_level_task *old = __atomic_exchange_n(&it->given, new, __ATOMIC_ACQ_REL);
+  if (!old) return;
+  let_free(old);
+  free(old);
+}
+
+/* With the lock: the barrier is opened, if all stand in one phase and nobody waits. */
+static void make_fast(void) {
+  uint64_t phase = 0;
+  if (!is_slow || untold || CALL(phaser_c_waiting_level(&slow_phaser, numbers, (size_t)count, &phase)) != PALDWOSK_DONE) return;
+  ANSWERS(phaser_c_level_open(&keeper, &slow_phaser, numbers, (size_t)count), PALDWOSK_DONE);
+  for (int at = 0; at < count; at++) {
+    paldwosk_level_task *new = calloc(1, sizeof *new);
+    if (!new) _Exit(5);
+    ANSWERS(phaser_c_level_take(&keeper, new), PALDWOSK_DONE);
+    let_given(&players[at], new);
+  }
+  raise_flag(&is_slow, 0);
+}
+
+/* With the lock: the barrier is closed. Who came in the phase tells its call itself, and is counted. */
+static void make_slow(void) {
+  uint64_t phase = 0;
+  AWAIT(phaser_c_level_close(&keeper, &slow_phaser), PALDWOSK_DONE);
+  MUST(!keeper.held && slow_phaser.held);
+  raise_flag(&is_slow, 1);
+  ANSWERS(phaser_c_waiting_level(&slow_phaser, numbers, (size_t)count, &phase), PALDWOSK_DONE);
+  for (int at = 0; at < count; at++) {
+    if (__atomic_load_n(&players[at].coming, __ATOMIC_SEQ_CST) != (long)phase + 1) continue;
+    players[at].is_counted = 1, untold++;
+  }
+  changes++;
+}
+
+static void free_whom(const paldwosk_freed *freed, size_t many) {
+  for (size_t at = 0; at < many; at++) {
+    MUST(freed[at].task < (uint64_t)count && freed[at].answer == PALDWOSK_DONE);
+    if (freed[at].task < (uint64_t)count) raise_flag(&players[freed[at].task].is_freed, 1);
+  }
+}
+
+/* With the lock, which is given back: the call of a task while the barrier is slow. */
+static void next_slowly(player *me, long phase) {
+  paldwosk_freed freed[256];
+  size_t many = 0;
+  uint64_t ended = 0;
+  raise_flag(&me->is_freed, 0);
+  uint32_t answer = CALL(phaser_c_waiting_next(&slow_phaser, numbers[me->number], &ended, freed, 256, &many));
+  MUST(answer == PALDWOSK_DONE || answer == PALDWOSK_NOT_YET);
+  free_whom(freed, many);
+  if (answer == PALDWOSK_DONE) {
+    MUST(ended == (uint64_t)phase && many == (size_t)count - 1);
+    if (!flag(&wants_slow)) make_fast();
+  }
+  pthread_mutex_unlock(&lock);
+  if (answer == PALDWOSK_NOT_YET)
+    while (!flag(&me->is_freed)) sched_yield();
+}
+
+static void send_slowly(player *me, uint8_t accumulator, int32_t value) {
+  ANSWERS(phaser_c_waiting_send(&slow_phaser, numbers[me->number], accumulator, value), PALDWOSK_DONE);
+}
+
+/* Takes what was left for the task. */
+static void fetch(player *me) {
+  paldwosk_level_task *new = __atomic_exchange_n(&me->given, NULL, __ATOMIC_ACQ_REL);
+  if (!new) return;
+  let_free(&me->task);
+  me->task = *new;
+  free(new);
+}
+
+/* The table was closed while the task waited: it tells its call itself. Whether that ended the phase: it doesn't if the
+ * barrier is fast again, for which the value that the task kept is kept anew. */
+static int after_closing(player *me, long phase) {
+  uint8_t accumulator = 9;
+  int32_t value = 0;
+  pthread_mutex_lock(&lock);
+  __atomic_store_n(&me->coming, 0, __ATOMIC_SEQ_CST);
+  if (me->is_counted) me->is_counted = 0, untold--;
+  ANSWERS(phaser_c_level_kept(&me->task, &accumulator, &value), PALDWOSK_DONE);
+  MUST(accumulator == 0 && value == me->number + 1);
+  if (is_slow) {
+    send_slowly(me, accumulator, value);
+    next_slowly(me, phase);
+    return 1;
+  }
+  pthread_mutex_unlock(&lock);
+  fetch(me);
+  ANSWERS(phaser_c_level_send(&me->task, accumulator, value), PALDWOSK_DONE);
+  return 0;
+}
+
+static void come_fast(player *me, long phase) {
+  for (;;) {
+    __atomic_store_n(&me->coming, phase + 1, __ATOMIC_SEQ_CST);
+    uint32_t answer = CALL(phaser_c_level_come(&me->task));
+    for (int tries = 1; answer == PALDWOSK_NOT_YET; tries++) {
+      answer = CALL(phaser_c_level_look(&me->task));
+      if (tries % 64 == 0) sched_yield();
+    }
+    if (answer == PALDWOSK_DONE) break;
+    MUST(answer == PALDWOSK_CLOSED);
+    if (after_closing(me, phase)) return;
+  }
+  __atomic_store_n(&me->coming, 0, __ATOMIC_SEQ_CST);
+}
+
+/* Sends the task's number plus one, and comes. */
+static void turn(player *me, long phase) {
+  pthread_mutex_lock(&lock);
+  while (is_slow && untold) pthread_mutex_unlock(&lock), sched_yield(), pthread_mutex_lock(&lock);
+  if (is_slow) {
+    send_slowly(me, 0, me->number + 1);
+    next_slowly(me, phase);
+    return;
+  }
+  pthread_mutex_unlock(&lock);
+  fetch(me);
+  ANSWERS(phaser_c_level_send(&me->task, 0, me->number + 1), PALDWOSK_DONE);
+  come_fast(me, phase);
+}
+
+/* The sum of what was sent in the phase before. */
+static int64_t sum_seen(player *me) {
+  int64_t seen = -1;
+  for (;;) {
+    pthread_mutex_lock(&lock);
+    if (is_slow) ANSWERS(phaser_c_waiting_look(&slow_phaser, numbers[me->number], 0, &seen), PALDWOSK_DONE);
+    int was_slow = is_slow;
+    pthread_mutex_unlock(&lock);
+    if (was_slow) return seen;
+    fetch(me);
+    uint32_t answer = CALL(phaser_c_level_look_at(&me->task, 0, &seen));
+    if (answer == PALDWOSK_DONE) return seen;
+    MUST(answer == PALDWOSK_NOT_YET);
+    sched_yield();
+  }
+}
+
+static void *play(void *of) {
+  player *me = of;
+  for (long phase = 0; phase < phases; phase++) {
+    marks[me->number][phase % 2] = phase;
+    add(&came[phase], 1);
+    comes(&came[phase]);
+    turn(me, phase);
+    has_gone_on(&came[phase]);
+    for (int at = 0; at < count; at++) MUST(marks[at][phase % 2] == phase);
+    MUST(value_of(&came[phase]) == count);
+    MUST(sum_seen(me) == (int64_t)count * (count + 1) / 2);
+  }
+  add(&there[0], 1);
+  return NULL;
+}
+
+/* Opens and closes until all are done. */
+static void *change(void *of) {
+  (void)of;
+  while (value_of(&there[0]) < count) {
+    pthread_mutex_lock(&lock);
+    if (is_slow) {
+      raise_flag(&wants_slow, 0);
+      make_fast();
+    } else {
+      raise_flag(&wants_slow, changes % 3 == 0);
+      make_slow();
+    }
+    pthread_mutex_unlock(&lock);
+    for (long pause = 0; pause < changes % 7; pause++) sched_yield();
+  }
+  return NULL;
+}
+
+static void make_changes(void) {
+  const uint32_t sum[] = {PALDWOSK_SUM};
+  pthread_t changer;
+  there = calloc(1, sizeof *there), came = calloc((size_t)phases + 1, sizeof *came);
+  if (!there || !came || CALL(phaser_c_waiting_new(&slow_phaser, sum, 1, 2)) != PALDWOSK_DONE) _Exit(5);
+  ANSWERS(phaser_c_waiting_make(&slow_phaser, PALDWOSK_SIG_WAIT, &numbers[0]), PALDWOSK_DONE);
+  for (int at = 1; at < count; at++)
+    ANSWERS(phaser_c_waiting_register(&slow_phaser, numbers[0], PALDWOSK_SIG_WAIT, &numbers[at]), PALDWOSK_DONE);
+  for (int at = 0; at < count; at++) {
+    players[at].number = at;
+    if (pthread_create(&players[at].thread, NULL, play, &players[at])) _Exit(5);
+  }
+  if (pthread_create(&changer, NULL, change, NULL)) _Exit(5);
+  for (int at = 0; at < count; at++) pthread_join(players[at].thread, NULL);
+  pthread_join(changer, NULL);
+  for (int at = 0; at < count; at++) let_given(&players[at], NULL), let_free(&players[at].task);
+  enter(), phaser_c_level_drop(&keeper), phaser_c_waiting_free(&slow_phaser), leave();
+  MUST(changes > 0);
+  free(there), free(came);
+}
+
 int main(int words, char **word) {
   const char *what = words > 1 ? word[1] : "";
   if (!strcmp(what, "wrong") && words == 2) {
-    refused_to_new(), closed(), in_turn(), most_tasks();
+    refused_to_new(), closed(), in_turn(), most_tasks(), refused_to_open(), open_and_close();
   } else if (!strcmp(what, "memory") && words == 2) {
     lacking();
   } else if ((!strcmp(what, "turns") || !strcmp(what, "crowd")) && words == 4) {
     count = atoi(word[2]), phases = atol(word[3]), with_visitors = *what == 'c';
     if (count < 1 || count > MOST || phases < 10 * count) return 2;
     turn_phases();
+  } else if (!strcmp(what, "changes") && words == 4) {
+    count = atoi(word[2]), phases = atol(word[3]);
+    if (count < 2 || count > MOST || phases < 1) return 2;
+    make_changes();
   } else {
     return 2;
   }
