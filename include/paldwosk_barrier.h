@@ -115,6 +115,53 @@
 extern "C" {
 #endif
 
+#if defined __SANITIZE_THREAD__
+#define PALDWOSKI_SANITIZED
+#elif defined __has_feature
+#if __has_feature(thread_sanitizer)
+#define PALDWOSKI_SANITIZED
+#endif
+#endif
+
+/* ThreadSanitizer doesn't see the archive's atomic words, but sees what the archive copies and frees. So it is told whom a
+ * phase orders, and leaves aside what is done within a call. */
+#ifdef PALDWOSKI_SANITIZED
+void __tsan_acquire(void *at);
+void __tsan_release(void *at);
+void AnnotateIgnoreReadsBegin(const char *file, int line);
+void AnnotateIgnoreReadsEnd(const char *file, int line);
+void AnnotateIgnoreWritesBegin(const char *file, int line);
+void AnnotateIgnoreWritesEnd(const char *file, int line);
+
+PALDWOSK_INLINE void paldwoski_acquire(void *at) { __tsan_acquire(at); }
+PALDWOSK_INLINE void paldwoski_release(void *at) { __tsan_release(at); }
+
+PALDWOSK_INLINE void paldwoski_enter_archive(void) {
+  AnnotateIgnoreReadsBegin(__FILE__, __LINE__);
+  AnnotateIgnoreWritesBegin(__FILE__, __LINE__);
+}
+
+PALDWOSK_INLINE uint32_t paldwoski_leave_archive(uint32_t answer) {
+  AnnotateIgnoreWritesEnd(__FILE__, __LINE__);
+  AnnotateIgnoreReadsEnd(__FILE__, __LINE__);
+  return answer;
+}
+
+#define PALDWOSKI_ARCHIVE(call) (paldwoski_enter_archive(), paldwoski_leave_archive(call))
+#else
+PALDWOSK_INLINE void paldwoski_acquire(void *at) { (void)at; }
+PALDWOSK_INLINE void paldwoski_release(void *at) { (void)at; }
+#define PALDWOSKI_ARCHIVE(call) (call)
+#endif
+
+PALDWOSK_INLINE void paldwoski_free_level(paldwosk_level_task *level) {
+  if (level->held) (void)PALDWOSKI_ARCHIVE((phaser_c_level_free(level), 0));
+}
+
+PALDWOSK_INLINE void paldwoski_drop_level(paldwosk_level *level) {
+  (void)PALDWOSKI_ARCHIVE((phaser_c_level_drop(level), 0));
+}
+
 #if defined PALDWOSKI_BY_FUTEX && !defined __cplusplus
 long syscall(long number, ...); /* -std=c11 hides it */
 #endif
@@ -150,9 +197,7 @@ typedef struct paldwosk_barrier {
   struct paldwoski_member *members; /* the registered tasks, by their numbers */
   struct paldwoski_trace *trace;    /* NULL if none is kept */
   uint8_t kept_apart[64];          /* what changes seldom isn't in the line of the lock */
-#ifndef PALDWOSKI_IN_ROUNDS
   uint32_t turn;         /* atomic: rises when sleepers are woken; it is on this word that they sleep */
-#endif
   pthread_mutex_t lock;  /* guards what isn't said to be atomic */
 #ifndef PALDWOSKI_BY_FUTEX
   pthread_cond_t turned; /* or on this */
@@ -473,7 +518,7 @@ enum { PALDWOSKI_CLOCK = 1 }; /* CLOCK_MONOTONIC */
 struct paldwoski_sleeper {
   struct paldwoski_sleeper *next;
   uint64_t task, number; /* the number is what the answer has besides */
-  uint64_t turn;         /* in a round: of the rounds, as it was before the task came */
+  paldwosk_level_task *level; /* by what its task has come, if the barrier was fast; else NULL */
   uint32_t call, single, answer;
   uint32_t state;     /* atomic if threads sleep by futex, else guarded by the lock */
   uint32_t patience;  /* for how many pauses it spins */
@@ -482,11 +527,10 @@ struct paldwoski_sleeper {
   uint8_t is_parked;  /* it has to wait: it was put into the list, and counted as inside */
   uint8_t is_to_ask;  /* of a traced barrier: it makes its next call before the lock is given back */
   uint8_t is_to_pass; /* of a traced barrier: that call is the pass */
-  uint8_t is_in_round; /* it is over too once the round is over in which the task came */
 };
 
 PALDWOSK_INLINE struct paldwoski_sleeper paldwoski_new_sleeper(uint64_t task, uint32_t call, uint32_t single) {
-  struct paldwoski_sleeper me = {NULL, task, 0, 0, call, single, PALDWOSK_NOT_YET, PALDWOSKI_SPINNING, 0, 0, 0, 0, 0, 0, 0};
+  struct paldwoski_sleeper me = {NULL, task, 0, NULL, call, single, PALDWOSK_NOT_YET, PALDWOSKI_SPINNING, 0, 0, 0, 0, 0, 0};
   return me;
 }
 
@@ -502,53 +546,36 @@ enum { PALDWOSKI_MOST_MEMBERS = 256, PALDWOSKI_MEMBER_PLACES = 512 };
 
 #ifdef PALDWOSKI_IN_ROUNDS
 
-enum { PALDWOSKI_MOST_KEPT = 4, PALDWOSKI_MOST_ACCUMULATORS = 4, PALDWOSKI_SEAT_WORDS = PALDWOSKI_MOST_MEMBERS / 64 };
 enum { PALDWOSKI_NO_SEAT = PALDWOSKI_MOST_MEMBERS };
 enum { PALDWOSKI_LINE = 128 }; /* a processor may fetch two lines of memory at once */
 
-/* Who is at a seat: nobody; a thread that touches it, and doesn't block; or one that has come, and waits. */
-enum { PALDWOSKI_OUTSIDE = 0, PALDWOSKI_PASSING = 1, PALDWOSKI_SEATED = 2 };
-
 #define PALDWOSKI_ALONE __attribute__((aligned(PALDWOSKI_LINE))) /* begins a line of its own */
 
-/* Where a task comes. It is its own thread's, unless another claims it, or has it with the lock while the barrier is
- * slow. */
+/* Where a task comes while the barrier is fast, by a handle of the archive's. What isn't atomic is of the thread that is at
+ * the seat. With the lock another may be there: it claims the seat, or the barrier is slow, and nobody comes. */
 struct paldwoski_seat {
-  uint64_t task PALDWOSKI_ALONE;         /* atomic: the number of its task; PALDWOSKI_NOBODY if it is free */
-  uint64_t phase;                       /* atomic: where the task stands, while the barrier is fast */
-  uint64_t came;                        /* atomic: the phase after the one in which it came last; 0 once the phaser is told */
-  uint32_t inside;                      /* atomic: who is at it */
-  uint32_t sends;                       /* how many values it keeps of which the phaser isn't told */
-  int32_t values[PALDWOSKI_MOST_KEPT];   /* these */
-  uint8_t indices[PALDWOSKI_MOST_KEPT];  /* and for which accumulator each is */
-  struct paldwoski_tries tries;          /* of its thread */
-  struct paldwoski_sleeper call;         /* the next with which it has come */
+  uint64_t task PALDWOSKI_ALONE; /* atomic: the number of its task; PALDWOSKI_NOBODY if it is free */
+  uint64_t coming;              /* atomic: the phase after the one in which its thread comes; 0 once it knows of the outcome */
+  uint32_t inside;              /* atomic: whether a thread is at it */
+  uint32_t is_counted;          /* with the lock: its thread is among the untold */
+  uint64_t phase;               /* where the task stands */
+  uint64_t era;                 /* of which the handle is */
+  paldwosk_level_task level;    /* the handle */
+  paldwosk_level_task given;    /* with the lock: that of the newest era, until it is fetched */
+  struct paldwoski_tries tries;  /* of its thread */
 };
 
-/* What a look at an accumulator is answered in this phase. */
-struct paldwoski_fold {
-  uint64_t phase;
-  int64_t value;
-  uint32_t answer;
-};
-
-/* The last task to come has the phaser until it sets the count again. So has the holder of the lock while the word says
- * SLOW or BUSY. What isn't atomic is theirs. */
+/* What is left here to do for fast phases. With the lock, unless it is said to be atomic. */
 struct paldwoski_rounds {
-  uint64_t to_come PALDWOSKI_ALONE;           /* atomic: SLOW, BUSY, and how many tasks haven't come */
-  uint64_t have_sent[PALDWOSKI_SEAT_WORDS];   /* atomic: which seats keep values */
-  uint64_t whole PALDWOSKI_ALONE;             /* atomic: how many rounds are over (high half); the turn (low half) */
-  uint32_t sleepers, is_slow;                /* atomic: how many threads sleep at seats; whether the word says SLOW */
-  struct paldwoski_fold folds[PALDWOSKI_MOST_ACCUMULATORS] PALDWOSKI_ALONE; /* read by tasks that haven't come */
-  uint64_t phase PALDWOSKI_ALONE;             /* in which all tasks stand, while the barrier is fast */
-  uint64_t fast_since;                       /* the first of these phases */
-  uint32_t ended;                            /* how many rounds are over, also if the others aren't let go yet */
-  uint32_t wanted;                           /* bits of the accumulators at which tasks look */
-  struct paldwoski_seat *claimed;             /* by the holder of the lock, while the barrier is fast; or NULL */
-  uint64_t used[PALDWOSKI_SEAT_WORDS];        /* which seats have a task */
-  uint64_t tasks[PALDWOSKI_MOST_MEMBERS];     /* the registered tasks, in any order */
-  uint16_t places[PALDWOSKI_MOST_MEMBERS];    /* the seats of these */
-  paldwosk_given_send sends[(size_t)PALDWOSKI_MOST_MEMBERS * PALDWOSKI_MOST_KEPT]; /* room for the sends of a round */
+  uint64_t era PALDWOSKI_ALONE;         /* atomic: odd while the barrier is fast; it rises by 1 with each change */
+  uint32_t sleepers PALDWOSKI_ALONE;    /* atomic: how many threads sleep at seats, or are about to */
+  uint32_t untold PALDWOSKI_ALONE;      /* atomic: how many had come when it became slow, and haven't told their call yet */
+  uint32_t held;                       /* how many threads wait for that; meanwhile it stays slow */
+  uint64_t opened;                     /* the phase in which it became fast last */
+  uint64_t next_task;                  /* the number of the task that is registered next */
+  paldwosk_level level;                /* while it is fast: the archive's keeper of the phaser */
+  uint64_t tasks[PALDWOSKI_MOST_MEMBERS];  /* the registered tasks, the least number first */
+  uint16_t places[PALDWOSKI_MOST_MEMBERS]; /* the seats of these */
   struct paldwoski_seat seats[PALDWOSKI_MOST_MEMBERS];
 };
 
@@ -756,14 +783,11 @@ PALDWOSK_INLINE int paldwoski_is_ready(const struct paldwoski_sleeper *me) {
   return __atomic_load_n(&me->state, __ATOMIC_ACQUIRE) == PALDWOSKI_READY;
 }
 
-/* Whether its call is over: it has an answer, or the round is over in which its task came. */
-PALDWOSK_INLINE int paldwoski_is_over(const paldwosk_barrier *barrier, const struct paldwoski_sleeper *me) {
-#ifdef PALDWOSKI_IN_ROUNDS
-  if (me->is_in_round && (__atomic_load_n(&barrier->rounds->whole, __ATOMIC_SEQ_CST) ^ me->turn) >> 32) return 1;
-#else
-  (void)barrier;
-#endif
-  return paldwoski_is_ready(me);
+/* Whether its call is over. If its task has come at a fast barrier the archive says so, and the look is its last. */
+PALDWOSK_INLINE int paldwoski_is_over(struct paldwoski_sleeper *me) {
+  if (!me->level) return paldwoski_is_ready(me);
+  if (me->answer == PALDWOSK_NOT_YET) me->answer = PALDWOSKI_ARCHIVE(phaser_c_level_look(me->level));
+  return me->answer != PALDWOSK_NOT_YET;
 }
 
 PALDWOSK_INLINE int64_t paldwoski_microseconds(void) {
@@ -826,14 +850,14 @@ PALDWOSK_INLINE void paldwoski_give_way(paldwosk_barrier *barrier) {
 /* With more threads than processors those that the call waits for may have none. To yield to them takes less time than
  * to sleep and to be woken. */
 PALDWOSK_INLINE void paldwoski_yield(paldwosk_barrier *barrier, struct paldwoski_sleeper *me) {
-  if (!me->yields || paldwoski_is_over(barrier, me)) return;
+  if (!me->yields || paldwoski_is_over(me)) return;
   int64_t began = paldwoski_microseconds(), took = 0;
-  for (uint32_t done = 0; done < me->yields && took < PALDWOSKI_LONG_YIELDS && !paldwoski_is_over(barrier, me); done++) {
+  for (uint32_t done = 0; done < me->yields && took < PALDWOSKI_LONG_YIELDS && !paldwoski_is_over(me); done++) {
     paldwoski_give_way(barrier);
     took = paldwoski_microseconds() - began;
     if (took < 0) took = 0; /* somebody has set the clock */
   }
-  paldwoski_learn_of_yields(barrier, took, took >= PALDWOSKI_LONG_YIELDS || !paldwoski_is_over(barrier, me));
+  paldwoski_learn_of_yields(barrier, took, took >= PALDWOSKI_LONG_YIELDS || !paldwoski_is_over(me));
 }
 
 #ifdef PALDWOSKI_BY_FUTEX
@@ -886,21 +910,12 @@ PALDWOSK_INLINE void paldwoski_learn(paldwosk_barrier *barrier, const struct pal
   paldwoski_set(&barrier->pauses, pauses < PALDWOSKI_LEAST_PAUSES ? 0 : pauses);
 }
 
-/* The word on which threads sleep: the turn. */
-PALDWOSK_INLINE uint32_t *paldwoski_turn_word(paldwosk_barrier *barrier) {
-#ifdef PALDWOSKI_IN_ROUNDS
-  return (uint32_t *)&barrier->rounds->whole; /* its low half */
-#else
-  return &barrier->turn;
-#endif
+PALDWOSK_INLINE uint32_t paldwoski_turn(const paldwosk_barrier *barrier) {
+  return __atomic_load_n(&barrier->turn, __ATOMIC_SEQ_CST);
 }
 
-PALDWOSK_INLINE uint32_t paldwoski_turn(paldwosk_barrier *barrier) {
-#ifdef PALDWOSKI_IN_ROUNDS
-  return (uint32_t)__atomic_load_n(&barrier->rounds->whole, __ATOMIC_SEQ_CST);
-#else
-  return __atomic_load_n(&barrier->turn, __ATOMIC_ACQUIRE);
-#endif
+PALDWOSK_INLINE void paldwoski_raise_turn(paldwosk_barrier *barrier) {
+  __atomic_fetch_add(&barrier->turn, 1, __ATOMIC_SEQ_CST);
 }
 
 /* The call that takes a time as long as time_t is: with 32 bits it is another than before, from Linux 5.1 on. */
@@ -939,20 +954,19 @@ PALDWOSK_INLINE void paldwoski_lock(paldwosk_barrier *barrier) {
 /* After it the call is over, or the sleeper is ASLEEP: then others have to wake it. */
 PALDWOSK_INLINE void paldwoski_spin(paldwosk_barrier *barrier, struct paldwoski_sleeper *me) {
   uint32_t spun = 0, state = PALDWOSKI_SPINNING;
-  for (; spun < me->patience && !paldwoski_is_over(barrier, me); spun++) paldwoski_pause();
+  for (; spun < me->patience && !paldwoski_is_over(me); spun++) paldwoski_pause();
   if (me->patience) paldwoski_learn(barrier, me, spun == me->patience);
   paldwoski_yield(barrier, me);
-  if (paldwoski_is_over(barrier, me) || __atomic_load_n(&me->state, __ATOMIC_RELAXED) != PALDWOSKI_SPINNING) return;
+  if (paldwoski_is_over(me) || __atomic_load_n(&me->state, __ATOMIC_RELAXED) != PALDWOSKI_SPINNING) return;
   __atomic_compare_exchange_n(&me->state, &state, PALDWOSKI_ASLEEP, 0, __ATOMIC_ACQUIRE, __ATOMIC_ACQUIRE);
 }
 
 /* The turn is read before it is asked whether the call is over. A thread freed after that finds that the turn isn't what
  * it was, and doesn't sleep. */
 PALDWOSK_INLINE void paldwoski_sleep(paldwosk_barrier *barrier, struct paldwoski_sleeper *me) {
-  while (!paldwoski_is_over(barrier, me)) {
+  while (!paldwoski_is_over(me)) {
     uint32_t seen = paldwoski_turn(barrier);
-    if (!paldwoski_is_over(barrier, me))
-      paldwoski_futex(paldwoski_turn_word(barrier), 0, seen, paldwoski_bit(me->task));
+    if (!paldwoski_is_over(me)) paldwoski_futex(&barrier->turn, 0, seen, paldwoski_bit(me->task));
   }
 }
 
@@ -1141,20 +1155,19 @@ PALDWOSK_INLINE void paldwoski_let_others_run(uint32_t tried) {
   errno = kept;
 }
 
-/* ---- Rounds. While all tasks stand level the barrier is fast: a task comes by taking 1 from a count. The last to come
- * has the phaser make all calls of the phase in one, and then lets the others go. The word with the count says SLOW if
- * each call takes the lock. It says BUSY if the holder of the lock has the phaser; tasks come meanwhile. If it says
- * neither and the count is 0, the last to come has the phaser. */
+/* ---- Rounds. While all tasks stand level the barrier is fast. The archive has its phaser then, in what the tasks share
+ * there, and each task has a handle of its own. Of a task that comes the archive says whether it may go on. Who has a handle
+ * when, who sleeps, and how the phaser goes there and back is seen to here. */
 
 #ifdef PALDWOSKI_IN_ROUNDS
 
-#define PALDWOSKI_SLOW (UINT64_C(1) << 63)
-#define PALDWOSKI_BUSY (UINT64_C(1) << 62)
-#define PALDWOSKI_STILL (PALDWOSKI_SLOW | UINT64_C(1) << 31) /* late subtractions don't reach SLOW */
 #define PALDWOSKI_NOBODY UINT64_MAX
 
 /* For so many level moments a barrier stays slow at most; and so many fast phases in a row make that 1 again. */
 enum { PALDWOSKI_MOST_REST = 64 };
+
+/* So often the archive is asked with the lock for what it can't do just now. Then the slow way is tried. */
+enum { PALDWOSKI_MOST_ASKED = 300 };
 
 /* Waits for a thread that doesn't block. */
 PALDWOSK_INLINE void paldwoski_bide(uint32_t tried) {
@@ -1164,14 +1177,21 @@ PALDWOSK_INLINE void paldwoski_bide(uint32_t tried) {
 
 /* With the lock. */
 PALDWOSK_INLINE int paldwoski_is_slow(const paldwosk_barrier *barrier) {
-  return __atomic_load_n(&barrier->rounds->to_come, __ATOMIC_RELAXED) >= PALDWOSKI_SLOW;
+  return __atomic_load_n(&barrier->rounds->era, __ATOMIC_RELAXED) % 2 == 0;
 }
 
-/* With the phaser: raises the turn, and the number of the rounds that are over by so many. The halves are raised apart:
- * no carry of the turn may end a round. */
-PALDWOSK_INLINE void paldwoski_raise(struct paldwoski_rounds *rounds, uint64_t over) {
-  uint64_t whole = __atomic_load_n(&rounds->whole, __ATOMIC_RELAXED);
-  __atomic_store_n(&rounds->whole, ((whole >> 32) + over) << 32 | (uint32_t)(whole + 1), __ATOMIC_SEQ_CST);
+/* With the lock: the barrier is fast if it was slow, or the other way round. */
+PALDWOSK_INLINE void paldwoski_begin_era(paldwosk_barrier *barrier) {
+  uint64_t *era = &barrier->rounds->era;
+  __atomic_store_n(era, __atomic_load_n(era, __ATOMIC_RELAXED) + 1, __ATOMIC_SEQ_CST);
+}
+
+/* Wakes those who sleep at seats: the archive lets them go by now, or the barrier is slow. A thread counts itself before it
+ * reads the turn and looks for the last time. So it is seen here, or it sees there that it needn't sleep. */
+PALDWOSK_INLINE void paldwoski_wake_seats(paldwosk_barrier *barrier) {
+  if (!__atomic_load_n(&barrier->rounds->sleepers, __ATOMIC_SEQ_CST)) return;
+  paldwoski_raise_turn(barrier);
+  paldwoski_futex(&barrier->turn, 1, INT_MAX, UINT32_MAX);
 }
 
 /* ---- Seats */
@@ -1184,13 +1204,17 @@ PALDWOSK_INLINE struct paldwoski_seat *paldwoski_seat_of(const paldwosk_task *ta
 
 /* Nobody is at it: its thread comes, or another claims it. */
 PALDWOSK_INLINE int paldwoski_pass_to_seat(struct paldwoski_seat *seat) {
-  uint32_t outside = PALDWOSKI_OUTSIDE;
-  return __atomic_compare_exchange_n(&seat->inside, &outside, PALDWOSKI_PASSING, 0, __ATOMIC_SEQ_CST, __ATOMIC_RELAXED);
+  uint32_t nobody = 0;
+  return __atomic_compare_exchange_n(&seat->inside, &nobody, 1, 0, __ATOMIC_SEQ_CST, __ATOMIC_RELAXED);
 }
 
 /* The last that a thread does at its seat: it reads the barrier no more. */
 PALDWOSK_INLINE void paldwoski_leave_seat(struct paldwoski_seat *seat) {
-  __atomic_store_n(&seat->inside, PALDWOSKI_OUTSIDE, __ATOMIC_RELEASE);
+  __atomic_store_n(&seat->inside, 0, __ATOMIC_RELEASE);
+}
+
+PALDWOSK_INLINE int paldwoski_is_left(const struct paldwoski_seat *seat) {
+  return !__atomic_load_n(&seat->inside, __ATOMIC_SEQ_CST);
 }
 
 /* Here a test holds a thread. */
@@ -1198,108 +1222,136 @@ PALDWOSK_INLINE void paldwoski_leave_seat(struct paldwoski_seat *seat) {
 #define PALDWOSKI_BETWEEN_LOOKS() ((void)0)
 #endif
 
-/* The seat of a task, to which its thread passes; NULL if the barrier is slow, or another is there. Whoever makes the
- * barrier slow says so before it looks who is at a seat. So the thread looks again once it is there. */
+/* The seat of a task, at which its thread is now; NULL if the barrier is slow, its handle isn't fetched, or another is
+ * there. Whoever makes the barrier slow says so before it looks who is at a seat. So the thread looks again once it is
+ * there. */
 PALDWOSK_INLINE struct paldwoski_seat *paldwoski_enter_seat(const paldwosk_task *task) {
   struct paldwoski_rounds *rounds = task->barrier->rounds;
   struct paldwoski_seat *seat = &rounds->seats[task->seat % PALDWOSKI_MOST_MEMBERS];
-  if (__atomic_load_n(&rounds->is_slow, __ATOMIC_RELAXED)) return NULL;
+  if (__atomic_load_n(&rounds->era, __ATOMIC_RELAXED) % 2 == 0) return NULL;
   PALDWOSKI_BETWEEN_LOOKS();
   if (!paldwoski_pass_to_seat(seat)) return NULL;
-  if (!__atomic_load_n(&rounds->is_slow, __ATOMIC_SEQ_CST) && paldwoski_seat_of(task)) return seat;
+  uint64_t era = __atomic_load_n(&rounds->era, __ATOMIC_SEQ_CST);
+  if (paldwoski_seat_of(task) && era % 2 && era == seat->era) return seat;
   paldwoski_leave_seat(seat);
   return NULL;
 }
 
-/* Whether a thread is at the seat of which the phaser isn't told: it passes, or a round has let it go just now. Such a
- * thread doesn't block. */
-PALDWOSK_INLINE int paldwoski_is_at_seat(const struct paldwoski_seat *seat) {
-  uint32_t inside = __atomic_load_n(&seat->inside, __ATOMIC_SEQ_CST);
-  return inside == PALDWOSKI_PASSING ||
-         (inside == PALDWOSKI_SEATED && __atomic_load_n(&seat->came, __ATOMIC_ACQUIRE) != 0);
+/* At a seat: the archive sends a value. It asks again while others have the phaser, unless the barrier is slow by now. */
+PALDWOSK_INLINE uint32_t paldwoski_send_by(struct paldwoski_rounds *rounds, struct paldwoski_seat *seat, uint8_t index,
+                                           int32_t value) {
+  uint32_t answer = PALDWOSK_NOT_YET;
+  for (uint32_t tried = 0; answer == PALDWOSK_NOT_YET; tried++) {
+    if (tried) paldwoski_bide(tried);
+    if (__atomic_load_n(&rounds->era, __ATOMIC_ACQUIRE) != seat->era) break;
+    answer = PALDWOSKI_ARCHIVE(phaser_c_level_send(&seat->level, index, value));
+  }
+  return answer;
 }
 
-/* With the phaser, if nobody else touches the seat. */
-PALDWOSK_INLINE void paldwoski_tell_sends(paldwosk_barrier *barrier, struct paldwoski_seat *seat) {
-  uint64_t task = __atomic_load_n(&seat->task, __ATOMIC_RELAXED);
-  for (uint32_t at = 0; at < seat->sends; at++)
-    (void)phaser_c_waiting_send(&barrier->phaser, task, seat->indices[at], seat->values[at]);
-  if (seat->sends) seat->sends = 0;
+/* The same of a look at an accumulator. */
+PALDWOSK_INLINE uint32_t paldwoski_look_by(struct paldwoski_rounds *rounds, struct paldwoski_seat *seat, uint8_t index,
+                                           int64_t *value) {
+  uint32_t answer = PALDWOSK_NOT_YET;
+  for (uint32_t tried = 0; answer == PALDWOSK_NOT_YET; tried++) {
+    if (tried) paldwoski_bide(tried);
+    if (__atomic_load_n(&rounds->era, __ATOMIC_ACQUIRE) != seat->era) break;
+    answer = PALDWOSKI_ARCHIVE(phaser_c_level_look_at(&seat->level, index, value));
+  }
+  return answer;
 }
 
-PALDWOSK_INLINE uint64_t paldwoski_seat_bit(uint32_t place) { return UINT64_C(1) << place % 64; }
-
-/* A thread whose task has left may still wait at a seat. */
-PALDWOSK_INLINE int paldwoski_is_seat_free(const struct paldwoski_rounds *rounds, uint32_t place) {
-  if (rounds->used[place / 64] & paldwoski_seat_bit(place)) return 0;
-  return __atomic_load_n(&rounds->seats[place].inside, __ATOMIC_ACQUIRE) != PALDWOSKI_SEATED;
+/* With the lock, at a seat: its handle is of this era after it. What was kept by the handle before is kept by this one. */
+PALDWOSK_INLINE void paldwoski_fetch(struct paldwoski_rounds *rounds, struct paldwoski_seat *seat) {
+  uint64_t era = __atomic_load_n(&rounds->era, __ATOMIC_RELAXED);
+  paldwosk_level_task before = seat->level;
+  uint8_t index = 0;
+  int32_t value = 0;
+  if (seat->era == era) return;
+  seat->level = seat->given;
+  seat->given.held = NULL;
+  seat->phase = rounds->opened;
+  seat->era = era;
+  if (PALDWOSKI_ARCHIVE(phaser_c_level_kept(&before, &index, &value)) == PALDWOSK_DONE)
+    (void)paldwoski_send_by(rounds, seat, index, value);
+  paldwoski_free_level(&before);
 }
 
-/* With the lock: a seat for a new task; NO_SEAT if there is none. */
-PALDWOSK_INLINE uint32_t paldwoski_free_place(const struct paldwoski_rounds *rounds) {
+/* With the lock: the seat of a task at a fast barrier, which the thread has claimed; NULL if it can't be. */
+PALDWOSK_INLINE struct paldwoski_seat *paldwoski_claim_seat(const paldwosk_task *task) {
+  struct paldwoski_seat *seat = paldwoski_is_slow(task->barrier) ? NULL : paldwoski_seat_of(task);
+  if (!seat || !paldwoski_pass_to_seat(seat)) return NULL;
+  paldwoski_fetch(task->barrier->rounds, seat);
+  return seat;
+}
+
+/* With the lock: whether the task can come by its seat. Its handle is fetched after it. */
+PALDWOSK_INLINE int paldwoski_can_come(const paldwosk_task *task) {
+  struct paldwoski_seat *seat = paldwoski_claim_seat(task);
+  if (seat) paldwoski_leave_seat(seat);
+  return seat != NULL;
+}
+
+/* With the lock: a seat for a new task; NO_SEAT if there is none. A thread whose task has left may still be there. */
+PALDWOSK_INLINE uint32_t paldwoski_free_place(const paldwosk_barrier *barrier) {
+  const struct paldwoski_rounds *rounds = barrier->rounds;
   uint32_t place = 0;
-  while (place < PALDWOSKI_NO_SEAT && !paldwoski_is_seat_free(rounds, place)) place++;
+  while (place < PALDWOSKI_NO_SEAT &&
+         (__atomic_load_n(&rounds->seats[place].task, __ATOMIC_RELAXED) != PALDWOSKI_NOBODY ||
+          !paldwoski_is_left(&rounds->seats[place])))
+    place++;
   return place;
 }
 
-PALDWOSK_INLINE void paldwoski_prepare_seat(struct paldwoski_rounds *rounds, uint32_t place, uint64_t number) {
+/* With the lock: the task is at this place from now on, if there is such a seat. Else the barrier is slow. */
+PALDWOSK_INLINE void paldwoski_add_seat(paldwosk_barrier *barrier, uint64_t number, uint32_t place) {
+  struct paldwoski_rounds *rounds = barrier->rounds;
+  uint32_t at = barrier->tasks - 1;
+  rounds->tasks[at] = number;
+  rounds->places[at] = (uint16_t)place;
+  rounds->next_task = number + 1;
+  if (place == PALDWOSKI_NO_SEAT) {
+    barrier->uneven++;
+    return;
+  }
   struct paldwoski_seat *seat = &rounds->seats[place];
-  rounds->used[place / 64] |= paldwoski_seat_bit(place);
-  seat->call = paldwoski_new_sleeper(number, PALDWOSKI_CALL_NEXT, 0);
-  seat->call.is_in_round = 1;
-  seat->sends = 0;
+  seat->is_counted = 0;
   seat->tries.waits = place % PALDWOSKI_PROBE_AFTER; /* so that not all try in one phase whether it is good to spin */
   seat->tries.probe = PALDWOSKI_PROBE_AFTER;
-  __atomic_store_n(&seat->came, 0, __ATOMIC_RELAXED);
-  __atomic_store_n(&seat->phase, rounds->phase, __ATOMIC_RELAXED);
+  __atomic_store_n(&seat->coming, 0, __ATOMIC_RELAXED);
   __atomic_store_n(&seat->task, number, __ATOMIC_RELEASE);
 }
 
-/* With the phaser: a seat for a task that is registered now and counted. If there is none, the barrier is slow. */
-PALDWOSK_INLINE uint32_t paldwoski_add_seat(paldwosk_barrier *barrier, uint64_t number) {
-  struct paldwoski_rounds *rounds = barrier->rounds;
-  uint32_t place = paldwoski_free_place(rounds), at = barrier->tasks - 1;
-  rounds->tasks[at] = number;
-  rounds->places[at] = (uint16_t)place;
-  if (place == PALDWOSKI_NO_SEAT) barrier->uneven++;
-  else paldwoski_prepare_seat(rounds, place, number);
-  if (!paldwoski_is_slow(barrier)) __atomic_fetch_add(&rounds->to_come, 1, __ATOMIC_SEQ_CST);
-  return place;
+/* With the lock, if no other is at the seat, or can come to it before its task has another number. */
+PALDWOSK_INLINE void paldwoski_clear_seat(struct paldwoski_seat *seat) {
+  paldwoski_free_level(&seat->level);
+  paldwoski_free_level(&seat->given);
+  seat->era = 0;
+  __atomic_store_n(&seat->task, PALDWOSKI_NOBODY, __ATOMIC_RELEASE);
 }
 
-PALDWOSK_INLINE void paldwoski_clear_seat(struct paldwoski_rounds *rounds, uint32_t place) {
-  rounds->used[place / 64] &= ~paldwoski_seat_bit(place);
-  __atomic_store_n(&rounds->seats[place].task, PALDWOSKI_NOBODY, __ATOMIC_RELEASE);
-}
-
-/* With the phaser: the same for a task that has left, while it is counted. */
-PALDWOSK_INLINE void paldwoski_remove_seat(paldwosk_barrier *barrier, uint64_t number) {
+/* With the lock: a task has left. */
+PALDWOSK_INLINE void paldwoski_remove_task(paldwosk_barrier *barrier, uint64_t number) {
   struct paldwoski_rounds *rounds = barrier->rounds;
-  uint32_t at = 0, last = barrier->tasks - 1;
+  uint32_t at = 0;
   while (rounds->tasks[at] != number) at++;
-  uint32_t place = rounds->places[at];
-  rounds->tasks[at] = rounds->tasks[last];
-  rounds->places[at] = rounds->places[last];
-  if (place == PALDWOSKI_NO_SEAT) barrier->uneven--;
-  else paldwoski_clear_seat(rounds, place);
-  if (!paldwoski_is_slow(barrier)) __atomic_fetch_sub(&rounds->to_come, 1, __ATOMIC_SEQ_CST);
+  if (rounds->places[at] == PALDWOSKI_NO_SEAT) barrier->uneven--;
+  else paldwoski_clear_seat(&rounds->seats[rounds->places[at]]);
+  for (; at + 1 < barrier->tasks; at++) {
+    rounds->tasks[at] = rounds->tasks[at + 1];
+    rounds->places[at] = rounds->places[at + 1];
+  }
+  paldwoski_remove_member(barrier, number);
 }
 
 PALDWOSK_INLINE int paldwoski_are_seats_left(const paldwosk_barrier *barrier) {
   uint32_t place = 0;
-  while (place < PALDWOSKI_MOST_MEMBERS &&
-         __atomic_load_n(&barrier->rounds->seats[place].inside, __ATOMIC_ACQUIRE) == PALDWOSKI_OUTSIDE)
-    place++;
+  while (place < PALDWOSKI_MOST_MEMBERS && paldwoski_is_left(&barrier->rounds->seats[place])) place++;
   return place == PALDWOSKI_MOST_MEMBERS;
 }
 
-/* With the lock: whether a task has come, and waits for others. */
-PALDWOSK_INLINE int paldwoski_has_come(const paldwosk_barrier *barrier) {
-  uint64_t word = __atomic_load_n(&barrier->rounds->to_come, __ATOMIC_ACQUIRE);
-  return word < PALDWOSKI_SLOW && (uint32_t)word != barrier->tasks;
-}
-
-/* ---- From fast to slow. The phaser is told of those who have come; they stay where they wait. */
+/* ---- From fast to slow. The phaser is the lock holder's again, and all tasks stand in it. Those that had come are told so
+ * by the archive, and their threads then make their calls with the lock. */
 
 PALDWOSK_INLINE void paldwoski_set_members(paldwosk_barrier *barrier, uint64_t phase) {
   for (size_t at = 0; at < PALDWOSKI_MEMBER_PLACES; at++)
@@ -1307,358 +1359,240 @@ PALDWOSK_INLINE void paldwoski_set_members(paldwosk_barrier *barrier, uint64_t p
 }
 
 /* A barrier that is made slow soon after it has become fast stays so for twice as long. */
-PALDWOSK_INLINE void paldwoski_say_slow(paldwosk_barrier *barrier) {
-  struct paldwoski_rounds *rounds = barrier->rounds;
-  if (rounds->phase - rounds->fast_since >= PALDWOSKI_MOST_REST) barrier->rest = 1;
+PALDWOSK_INLINE void paldwoski_set_rest(paldwosk_barrier *barrier, uint64_t phase) {
+  if (phase - barrier->rounds->opened >= PALDWOSKI_MOST_REST) barrier->rest = 1;
   else if (barrier->rest < PALDWOSKI_MOST_REST) barrier->rest *= 2;
   barrier->rest_left = barrier->rest;
-  paldwoski_set_members(barrier, rounds->phase);
-  __atomic_store_n(&rounds->is_slow, 1, __ATOMIC_SEQ_CST);
 }
 
-/* Whether the task at the seat has come in this phase, and the phaser isn't told. */
-PALDWOSK_INLINE int paldwoski_has_come_to(const struct paldwoski_rounds *rounds, uint32_t place) {
-  return place != PALDWOSKI_NO_SEAT &&
-         __atomic_load_n(&rounds->seats[place].came, __ATOMIC_ACQUIRE) == rounds->phase + 1;
-}
-
-/* Waits until the seat of a task that is counted as come says so. */
-PALDWOSK_INLINE void paldwoski_await_seat(const struct paldwoski_rounds *rounds, uint32_t place) {
-  for (uint32_t tried = 0; !paldwoski_has_come_to(rounds, place); tried++) paldwoski_bide(tried);
-}
-
-/* Has the phaser make the call of a task that has come: its next, or its pass if its signal is made. */
-PALDWOSK_INLINE void paldwoski_tell_coming(paldwosk_barrier *barrier, struct paldwoski_seat *seat, uint32_t call) {
-  __atomic_store_n(&seat->came, 0, __ATOMIC_RELEASE);
-  seat->call.call = call;
-  paldwoski_tell_sends(barrier, seat);
-  paldwoski_ask_for(barrier, &seat->call);
-}
-
-/* Of those whose seats say by now that they have come. How many there are. */
-PALDWOSK_INLINE uint32_t paldwoski_tell_who_came(paldwosk_barrier *barrier) {
+/* Counts who has come in this phase, or is about to. A thread says so before it comes. */
+PALDWOSK_INLINE void paldwoski_count_untold(paldwosk_barrier *barrier, uint64_t phase) {
   struct paldwoski_rounds *rounds = barrier->rounds;
-  uint32_t told = 0;
+  uint32_t untold = 0;
   for (uint32_t at = 0; at < barrier->tasks; at++) {
-    uint32_t place = rounds->places[at];
-    if (!paldwoski_has_come_to(rounds, place)) continue;
-    paldwoski_tell_coming(barrier, &rounds->seats[place], PALDWOSKI_CALL_NEXT);
-    told++;
+    struct paldwoski_seat *seat = &rounds->seats[rounds->places[at]];
+    seat->is_counted = __atomic_load_n(&seat->coming, __ATOMIC_ACQUIRE) == phase + 1;
+    untold += seat->is_counted;
   }
-  return told;
+  __atomic_store_n(&rounds->untold, untold, __ATOMIC_RELAXED);
 }
 
-/* With the lock and BUSY, unless all have come. The word says how many have come. Each of these says so at its seat
- * right after it has taken 1 from the count. */
-PALDWOSK_INLINE int paldwoski_stop_rounds(paldwosk_barrier *barrier) {
-  uint64_t *to_come = &barrier->rounds->to_come, word = __atomic_load_n(to_come, __ATOMIC_RELAXED);
-  do {
-    if (!(uint32_t)word) return 0;
-  } while (!__atomic_compare_exchange_n(to_come, &word, PALDWOSKI_STILL, 0, __ATOMIC_SEQ_CST, __ATOMIC_RELAXED));
-  paldwoski_say_slow(barrier);
-  uint32_t untold = barrier->tasks - (uint32_t)word;
-  for (uint32_t tried = 0; (untold -= paldwoski_tell_who_came(barrier)) != 0; tried++) paldwoski_bide(tried);
-  return 1;
-}
-
-/* ---- The end of a round */
-
-PALDWOSK_INLINE size_t paldwoski_take_sends(struct paldwoski_rounds *rounds, uint32_t place, size_t count) {
-  struct paldwoski_seat *seat = &rounds->seats[place];
-  uint64_t task = __atomic_load_n(&seat->task, __ATOMIC_RELAXED);
-  for (uint32_t at = 0; at < seat->sends; at++) {
-    paldwosk_given_send send = {task, seat->values[at], seat->indices[at]};
-    rounds->sends[count++] = send;
-  }
-  seat->sends = 0;
-  return count;
-}
-
-PALDWOSK_INLINE size_t paldwoski_take_sends_of(struct paldwoski_rounds *rounds, uint32_t word, size_t count) {
-  if (!__atomic_load_n(&rounds->have_sent[word], __ATOMIC_RELAXED)) return count;
-  uint64_t bits = __atomic_exchange_n(&rounds->have_sent[word], 0, __ATOMIC_RELAXED);
-  for (; bits; bits &= bits - 1) count = paldwoski_take_sends(rounds, 64 * word + (uint32_t)__builtin_ctzll(bits), count);
-  return count;
-}
-
-/* What a look at each accumulator is answered in the next phase, if any task looks at it. */
-PALDWOSK_INLINE void paldwoski_publish_folds(paldwosk_barrier *barrier) {
+/* With the lock, at a fast barrier. Nobody comes to a seat from the first step on: else a second thread might come to one that
+ * a thread has left which was told so. The archive refuses while it makes a round, or sends: that is soon over. */
+PALDWOSK_INLINE void paldwoski_close_rounds(paldwosk_barrier *barrier) {
   struct paldwoski_rounds *rounds = barrier->rounds;
-  for (uint32_t bits = rounds->wanted; bits; bits &= bits - 1) {
-    uint8_t index = (uint8_t)__builtin_ctz(bits);
-    struct paldwoski_fold *fold = &rounds->folds[index];
-    fold->answer = phaser_c_waiting_look(&barrier->phaser, rounds->tasks[0], index, &fold->value);
-    fold->phase = rounds->phase + 1;
-  }
+  uint64_t phase = 0;
+  paldwoski_begin_era(barrier);
+  for (uint32_t tried = 0; PALDWOSKI_ARCHIVE(phaser_c_level_close(&rounds->level, &barrier->phaser)) == PALDWOSK_NOT_YET;
+       tried++)
+    paldwoski_bide(tried);
+  (void)phaser_c_waiting_level(&barrier->phaser, rounds->tasks, barrier->tasks, &phase);
+  paldwoski_set_rest(barrier, phase);
+  paldwoski_set_members(barrier, phase);
+  paldwoski_count_untold(barrier, phase);
+  paldwoski_wake_seats(barrier);
 }
 
-/* Whether a look was answered so. */
-PALDWOSK_INLINE int paldwoski_is_fold(uint32_t answer) {
-  return answer == PALDWOSK_DONE || answer == PALDWOSK_NOTHING || answer == PALDWOSK_TOO_GREAT;
+/* With the lock, which it gives back until fewer are untold. None is added while this thread is among the held. */
+PALDWOSK_INLINE void paldwoski_await_told(paldwosk_barrier *barrier) {
+  uint32_t *untold = &barrier->rounds->untold, seen = *untold;
+  pthread_mutex_unlock(&barrier->lock);
+  for (uint32_t tried = 0; tried < PALDWOSKI_LOCK_TRIES && __atomic_load_n(untold, __ATOMIC_RELAXED) == seen; tried++)
+    paldwoski_pause();
+  if (__atomic_load_n(untold, __ATOMIC_RELAXED) == seen) paldwoski_futex(untold, 0, seen, UINT32_MAX);
+  paldwoski_lock(barrier);
 }
 
-/* The round wasn't made as a whole. Before the call `refused` all were made: the sends, a signal of each task but the
- * first, a signal and a pass of the first, and the passes of the others. Tells the task of this place what is its. */
-PALDWOSK_INLINE void paldwoski_tell_task(paldwosk_barrier *barrier, uint32_t at, size_t sends, size_t refused) {
+/* With the lock: makes the barrier slow. Until all who had come have told their calls it gives the lock back. */
+PALDWOSK_INLINE void paldwoski_go_slow(paldwosk_barrier *barrier) {
   struct paldwoski_rounds *rounds = barrier->rounds;
-  struct paldwoski_seat *seat = &rounds->seats[rounds->places[at]];
-  size_t signal = sends + (at ? at : barrier->tasks) - 1, pass = sends + barrier->tasks + at;
-  if (pass >= refused) {
-    paldwoski_tell_coming(barrier, seat, signal < refused ? PALDWOSKI_CALL_WAIT : PALDWOSKI_CALL_NEXT);
-  } else {
-    __atomic_store_n(&seat->came, 0, __ATOMIC_RELEASE);
-    paldwoski_go_on(barrier, &seat->call, PALDWOSK_DONE, rounds->phase);
-  }
+  if (!paldwoski_is_slow(barrier)) paldwoski_close_rounds(barrier);
+  rounds->held++;
+  while (rounds->untold) paldwoski_await_told(barrier);
+  rounds->held--;
 }
 
-/* Tells the phaser each call by itself that it hasn't made, and makes the barrier slow. A history that is full comes to
- * this, after 2^62 events. */
-PALDWOSKI_APART void paldwoski_end_round_singly(paldwosk_barrier *barrier, size_t sends, size_t made) {
-  struct paldwoski_rounds *rounds = barrier->rounds;
-  size_t refused = made ? made - 1 : 0;
-  paldwoski_say_slow(barrier);
-  for (size_t at = refused; at < sends; at++)
-    (void)phaser_c_waiting_send(&barrier->phaser, rounds->sends[at].task, rounds->sends[at].accumulator,
-                                rounds->sends[at].value);
-  for (uint32_t at = 0; at < barrier->tasks; at++) paldwoski_tell_task(barrier, at, sends, refused);
-  barrier->to_wake = 0;
-  paldwoski_raise(rounds, 0);
-  __atomic_store_n(&rounds->to_come, PALDWOSKI_STILL, __ATOMIC_SEQ_CST);
-  paldwoski_futex(paldwoski_turn_word(barrier), 1, INT_MAX, UINT32_MAX);
+/* With the lock: this thread had come, and is about to tell its call. The last wakes those who wait for that. */
+PALDWOSK_INLINE void paldwoski_uncount(const paldwosk_task *task) {
+  struct paldwoski_rounds *rounds = task->barrier->rounds;
+  struct paldwoski_seat *seat = paldwoski_seat_of(task);
+  if (!seat) return;
+  __atomic_store_n(&seat->coming, 0, __ATOMIC_RELAXED);
+  if (!seat->is_counted) return;
+  seat->is_counted = 0;
+  __atomic_store_n(&rounds->untold, rounds->untold - 1, __ATOMIC_RELAXED);
+  if (!rounds->untold && rounds->held) paldwoski_futex(&rounds->untold, 1, INT_MAX, UINT32_MAX);
 }
 
-/* All have come, as the count says, and each seat says so too: so a slip of the count may hold all up, but lets no task go
- * on before another has come. The phaser makes the phase, and then the others are let go. The count is set before: a task
- * that is let go may come at once. */
-PALDWOSKI_APART void paldwoski_end_round(paldwosk_barrier *barrier) {
-  struct paldwoski_rounds *rounds = barrier->rounds;
-  uint32_t tasks = barrier->tasks;
-  size_t sends = 0, made = 0;
-  for (uint32_t at = 0; at < tasks; at++) paldwoski_await_seat(rounds, rounds->places[at]);
-  for (uint32_t word = 0; word < PALDWOSKI_SEAT_WORDS; word++) sends = paldwoski_take_sends_of(rounds, word, sends);
-  if (phaser_c_waiting_round(&barrier->phaser, rounds->sends, sends, rounds->tasks, tasks, rounds->phase, &made) !=
-      PALDWOSK_DONE) {
-    paldwoski_end_round_singly(barrier, sends, made);
-    return;
-  }
-  paldwoski_publish_folds(barrier);
-  rounds->phase++;
-  rounds->ended++;
-  __atomic_store_n(&rounds->to_come, tasks, __ATOMIC_RELEASE);
-  paldwoski_raise(rounds, 1);
-  if (__atomic_load_n(&rounds->sleepers, __ATOMIC_SEQ_CST))
-    paldwoski_futex(paldwoski_turn_word(barrier), 1, INT_MAX, UINT32_MAX);
+/* With the lock, at a slow barrier: waits until nobody is at the task's seat, and nobody comes there until the lock is given
+ * back. The phaser is told what the task keeps. */
+PALDWOSK_INLINE void paldwoski_empty_seat(const paldwosk_task *task) {
+  struct paldwoski_seat *seat = paldwoski_seat_of(task);
+  uint8_t index = 0;
+  int32_t value = 0;
+  if (!seat) return;
+  for (uint32_t tried = 0; !paldwoski_is_left(seat); tried++) paldwoski_bide(tried);
+  if (!seat->level.held) return;
+  if (PALDWOSKI_ARCHIVE(phaser_c_level_kept(&seat->level, &index, &value)) == PALDWOSK_DONE)
+    (void)phaser_c_waiting_send(&task->barrier->phaser, task->number, index, value);
+  paldwoski_free_level(&seat->level);
+}
+
+/* With the lock: makes the barrier slow, for a call of this task. */
+PALDWOSK_INLINE void paldwoski_settle(const paldwosk_task *task) {
+  paldwoski_go_slow(task->barrier);
+  paldwoski_empty_seat(task);
 }
 
 /* ---- From slow to fast */
 
 /* Whether the tasks may stand level, as far as the header knows; the phaser is asked then. */
 PALDWOSK_INLINE int paldwoski_may_be_level(const paldwosk_barrier *barrier) {
+  const struct paldwoski_rounds *rounds = barrier->rounds;
   return !barrier->first && !barrier->overdue && !barrier->coming && !barrier->uneven && barrier->tasks &&
-         !barrier->trace && !barrier->watch;
+         !barrier->trace && !barrier->watch && !rounds->untold && !rounds->held;
 }
 
-PALDWOSK_INLINE void paldwoski_set_seats(paldwosk_barrier *barrier, uint64_t phase) {
+/* Takes a handle for each task. Whether there was memory for all. */
+PALDWOSK_INLINE int paldwoski_give_handles(paldwosk_barrier *barrier) {
   struct paldwoski_rounds *rounds = barrier->rounds;
-  for (uint32_t at = 0; at < barrier->tasks; at++)
-    __atomic_store_n(&rounds->seats[rounds->places[at]].phase, phase, __ATOMIC_RELAXED);
+  for (uint32_t at = 0; at < barrier->tasks; at++) {
+    paldwosk_level_task *given = &rounds->seats[rounds->places[at]].given;
+    paldwoski_free_level(given);
+    if (PALDWOSKI_ARCHIVE(phaser_c_level_take(&rounds->level, given)) != PALDWOSK_DONE) return 0;
+  }
+  return 1;
 }
 
-/* With the lock, at a slow barrier: makes it fast if all stand level, and have often enough. */
-PALDWOSK_INLINE int paldwoski_begin_rounds(paldwosk_barrier *barrier) {
+/* With the lock, at a slow barrier: makes it fast if all stand level, and have often enough, and there is memory. */
+PALDWOSK_INLINE void paldwoski_open_rounds(paldwosk_barrier *barrier) {
   struct paldwoski_rounds *rounds = barrier->rounds;
-  uint64_t phase = 0;
-  if (!paldwoski_may_be_level(barrier)) return 0;
+  if (!paldwoski_may_be_level(barrier)) return;
   if (barrier->rest_left > 1) {
     barrier->rest_left--;
-    return 0;
-  }
-  if (phaser_c_waiting_level(&barrier->phaser, rounds->tasks, barrier->tasks, &phase) != PALDWOSK_DONE) return 0;
-  rounds->phase = rounds->fast_since = phase;
-  paldwoski_set_seats(barrier, phase);
-  __atomic_store_n(&rounds->is_slow, 0, __ATOMIC_SEQ_CST);
-  __atomic_store_n(&rounds->to_come, barrier->tasks, __ATOMIC_SEQ_CST);
-  return 1;
-}
-
-/* ---- The phaser, for the holder of the lock */
-
-/* At a fast barrier the word says BUSY after it. If all have come, the last has the phaser until it sets the count. */
-PALDWOSK_INLINE void paldwoski_take_word(paldwosk_barrier *barrier) {
-  uint64_t *to_come = &barrier->rounds->to_come, word = __atomic_load_n(to_come, __ATOMIC_ACQUIRE);
-  for (uint32_t tried = 0; word < PALDWOSKI_SLOW; tried++) {
-    if (!(uint32_t)word) paldwoski_bide(tried);
-    else if (__atomic_compare_exchange_n(to_come, &word, word | PALDWOSKI_BUSY, 0, __ATOMIC_SEQ_CST, __ATOMIC_RELAXED))
-      return;
-    word = __atomic_load_n(to_come, __ATOMIC_ACQUIRE);
-  }
-}
-
-/* The same, and all tasks of a round that is over have been let go: else a new task could come, and be let go with them.
- * Whoever made the barrier slow has waited for that. */
-PALDWOSK_INLINE void paldwoski_take_phaser(paldwosk_barrier *barrier) {
-  const struct paldwoski_rounds *rounds = barrier->rounds;
-  paldwoski_take_word(barrier);
-  if (paldwoski_is_slow(barrier)) return;
-  for (uint32_t tried = 0; __atomic_load_n(&rounds->whole, __ATOMIC_ACQUIRE) >> 32 != rounds->ended; tried++)
-    paldwoski_bide(tried);
-}
-
-/* The last may have come meanwhile, or who was missing has left: then this thread ends the round. */
-PALDWOSK_INLINE void paldwoski_give_phaser_back(paldwosk_barrier *barrier) {
-  struct paldwoski_rounds *rounds = barrier->rounds;
-  uint64_t word = __atomic_load_n(&rounds->to_come, __ATOMIC_RELAXED);
-  if (word < PALDWOSKI_SLOW) {
-    if (rounds->claimed) paldwoski_leave_seat(rounds->claimed);
-    rounds->claimed = NULL;
-    word = __atomic_fetch_and(&rounds->to_come, ~PALDWOSKI_BUSY, __ATOMIC_SEQ_CST);
-    if (!(uint32_t)word) paldwoski_end_round(barrier);
-  } else if (!paldwoski_begin_rounds(barrier) && word != PALDWOSKI_STILL) {
-    __atomic_store_n(&rounds->to_come, PALDWOSKI_STILL, __ATOMIC_RELAXED);
-  }
-}
-
-/* With the phaser: makes the barrier slow. */
-PALDWOSK_INLINE void paldwoski_go_slow(paldwosk_barrier *barrier) {
-  while (!paldwoski_is_slow(barrier) && !paldwoski_stop_rounds(barrier)) {
-    paldwoski_give_phaser_back(barrier);
-    paldwoski_take_phaser(barrier);
-  }
-}
-
-/* With the phaser: makes the barrier slow, for a call of this task. After it no thread touches the task's seat, until
- * the lock is given back. */
-PALDWOSK_INLINE void paldwoski_settle(const paldwosk_task *task) {
-  paldwoski_go_slow(task->barrier);
-  struct paldwoski_seat *seat = paldwoski_seat_of(task);
-  if (!seat) return;
-  for (uint32_t tried = 0; paldwoski_is_at_seat(seat); tried++) paldwoski_bide(tried);
-  paldwoski_tell_sends(task->barrier, seat);
-}
-
-/* The same, but the barrier stays fast if nobody is at the seat. */
-PALDWOSK_INLINE void paldwoski_claim(const paldwosk_task *task) {
-  struct paldwoski_seat *seat = paldwoski_seat_of(task);
-  if (!seat) return;
-  if (paldwoski_is_slow(task->barrier) || !paldwoski_pass_to_seat(seat)) {
-    paldwoski_settle(task);
     return;
   }
-  task->barrier->rounds->claimed = seat;
-  paldwoski_tell_sends(task->barrier, seat);
-}
-
-PALDWOSK_INLINE void paldwoski_claim_to_join(const paldwosk_task *parent, uint32_t mode) {
-  paldwosk_barrier *barrier = parent->barrier;
-  if (mode != PALDWOSK_SIG_WAIT || paldwoski_free_place(barrier->rounds) == PALDWOSKI_NO_SEAT) paldwoski_go_slow(barrier);
-  paldwoski_claim(parent);
-}
-
-PALDWOSK_INLINE void paldwoski_claim_to_leave(const paldwosk_task *task) {
-  if (task->barrier->tasks == 1) paldwoski_go_slow(task->barrier); /* no round is made of no tasks */
-  paldwoski_claim(task);
-}
-
-/* ---- What a task does at its seat, without the lock */
-
-/* Whether the seat keeps the value until its task comes. */
-PALDWOSK_INLINE int paldwoski_keep_send(const paldwosk_task *task, uint8_t index, int32_t value) {
-  struct paldwoski_seat *seat = index < task->barrier->accumulators ? paldwoski_enter_seat(task) : NULL;
-  if (!seat) return 0;
-  int has_room = seat->sends < PALDWOSKI_MOST_KEPT;
-  if (has_room) {
-    seat->values[seat->sends] = value;
-    seat->indices[seat->sends++] = index;
+  uint32_t opened = PALDWOSKI_ARCHIVE(phaser_c_level_open(&rounds->level, &barrier->phaser, rounds->tasks, barrier->tasks));
+  if (opened != PALDWOSK_DONE) return;
+  if (!paldwoski_give_handles(barrier)) {
+    (void)PALDWOSKI_ARCHIVE(phaser_c_level_close(&rounds->level, &barrier->phaser));
+    return;
   }
-  paldwoski_leave_seat(seat);
-  return has_room;
+  rounds->opened = paldwoski_member_of(barrier, rounds->tasks[0])->passes;
+  paldwoski_begin_era(barrier);
 }
 
-/* Whether the fold of the last phase stands there; then the look is answered by it. */
-PALDWOSK_INLINE int paldwoski_look_at_fold(const paldwosk_task *task, uint8_t index, int64_t *value,
+/* With the lock, which is about to be given back. */
+PALDWOSK_INLINE void paldwoski_end_hold(paldwosk_barrier *barrier) {
+  if (paldwoski_is_slow(barrier)) paldwoski_open_rounds(barrier);
+}
+
+/* ---- What a task does at its seat */
+
+/* Whether the value was sent by the task's seat; then the send is answered. */
+PALDWOSK_INLINE int paldwoski_send_at_seat(const paldwosk_task *task, uint8_t index, int32_t value,
                                            paldwosk_answer *answer) {
-  struct paldwoski_seat *seat = index < task->barrier->accumulators ? paldwoski_enter_seat(task) : NULL;
-  if (!seat) return 0;
-  const struct paldwoski_fold *fold = &task->barrier->rounds->folds[index];
-  int is_there = fold->phase == __atomic_load_n(&seat->phase, __ATOMIC_RELAXED);
-  if (is_there) *answer = (paldwosk_answer)fold->answer;
-  if (is_there && fold->answer == PALDWOSK_DONE) *value = fold->value;
-  paldwoski_leave_seat(seat);
-  return is_there;
-}
-
-/* With the phaser, after a look that was answered so: from the next round on its fold stands there. */
-PALDWOSK_INLINE void paldwoski_want_fold(paldwosk_barrier *barrier, uint8_t index, uint32_t answer) {
-  if (paldwoski_is_fold(answer)) barrier->rounds->wanted |= UINT32_C(1) << index;
-}
-
-PALDWOSK_INLINE void paldwoski_say_sends(struct paldwoski_rounds *rounds, const struct paldwoski_seat *seat) {
-  uint32_t place = (uint32_t)(seat - rounds->seats);
-  __atomic_fetch_or(&rounds->have_sent[place / 64], paldwoski_seat_bit(place), __ATOMIC_RELAXED);
-}
-
-/* The task comes, unless the barrier is slow by now. Its seat says so after the count does: else it might count as come,
- * and come in the next phase. */
-PALDWOSK_INLINE int paldwoski_come(paldwosk_barrier *barrier, struct paldwoski_seat *seat) {
-  struct paldwoski_rounds *rounds = barrier->rounds;
-  uint64_t phase = __atomic_load_n(&seat->phase, __ATOMIC_RELAXED);
-  seat->call.turn = __atomic_load_n(&rounds->whole, __ATOMIC_ACQUIRE);
-  if (seat->sends) paldwoski_say_sends(rounds, seat);
-  uint64_t word = __atomic_fetch_sub(&rounds->to_come, 1, __ATOMIC_SEQ_CST);
-  if (word >= PALDWOSKI_SLOW) return 0;
-  __atomic_store_n(&seat->came, phase + 1, __ATOMIC_RELEASE);
-  if (word == 1) paldwoski_end_round(barrier);
-  return 1;
-}
-
-/* The call may be over at once, and is for the last to come. */
-PALDWOSK_INLINE void paldwoski_wait_at_seat(paldwosk_barrier *barrier, struct paldwoski_seat *seat) {
-  struct paldwoski_sleeper *me = &seat->call;
-  if (paldwoski_is_over(barrier, me)) return;
-  me->patience = paldwoski_patience(barrier, me, &seat->tries);
-  me->yields = paldwoski_yields(barrier);
-  paldwoski_spin(barrier, me);
-  if (paldwoski_is_over(barrier, me)) return;
-  __atomic_fetch_add(&barrier->rounds->sleepers, 1, __ATOMIC_SEQ_CST);
-  paldwoski_sleep(barrier, me);
-  __atomic_fetch_sub(&barrier->rounds->sleepers, 1, __ATOMIC_SEQ_CST);
-}
-
-/* The phaser was told of the call if it has an answer. That comes first: a task that was made to leave has one, and the
- * others' next round may be over before its thread knows. Else a round was made of the phase in which the task came. The
- * barrier may have become slow since, and fast again. */
-PALDWOSK_INLINE paldwosk_answer paldwoski_answer_at_seat(struct paldwoski_seat *seat, uint64_t *phase) {
-  struct paldwoski_sleeper *me = &seat->call;
-  uint64_t came = __atomic_load_n(&seat->came, __ATOMIC_RELAXED), number = came - 1;
-  uint32_t answer = PALDWOSK_DONE;
-  if (paldwoski_is_ready(me)) {
-    answer = me->answer;
-    number = me->number;
-  } else __atomic_store_n(&seat->phase, came, __ATOMIC_RELAXED);
-  __atomic_store_n(&me->state, PALDWOSKI_SPINNING, __ATOMIC_RELAXED);
-  if (answer == PALDWOSK_DONE && phase) *phase = number;
-  return (paldwosk_answer)answer;
-}
-
-/* A next by the task's seat. Whether it was made: else the barrier is slow, or another is at the seat. */
-PALDWOSK_INLINE int paldwoski_next_at_seat(const paldwosk_task *task, paldwosk_answer *answer, uint64_t *phase) {
   struct paldwoski_seat *seat = paldwoski_enter_seat(task);
   if (!seat) return 0;
-  int has_come = paldwoski_come(task->barrier, seat);
-  if (has_come) {
-    __atomic_store_n(&seat->inside, PALDWOSKI_SEATED, __ATOMIC_RELEASE);
-    paldwoski_wait_at_seat(task->barrier, seat);
-    *answer = paldwoski_answer_at_seat(seat, phase);
-  }
+  uint32_t sent = paldwoski_send_by(task->barrier->rounds, seat, index, value);
   paldwoski_leave_seat(seat);
-  return has_come;
+  if (sent != PALDWOSK_NOT_YET) *answer = (paldwosk_answer)sent;
+  return sent != PALDWOSK_NOT_YET;
 }
 
-/* With the phaser: whether the task can come by its seat. */
-PALDWOSK_INLINE int paldwoski_can_come(const paldwosk_task *task) {
-  const struct paldwoski_seat *seat = paldwoski_seat_of(task);
-  return seat && !paldwoski_is_slow(task->barrier) &&
-         __atomic_load_n(&seat->inside, __ATOMIC_ACQUIRE) == PALDWOSKI_OUTSIDE;
+/* The same of a look. */
+PALDWOSK_INLINE int paldwoski_look_at_seat(const paldwosk_task *task, uint8_t index, int64_t *value,
+                                           paldwosk_answer *answer) {
+  struct paldwoski_seat *seat = paldwoski_enter_seat(task);
+  if (!seat) return 0;
+  uint32_t looked = paldwoski_look_by(task->barrier->rounds, seat, index, value);
+  paldwoski_leave_seat(seat);
+  if (looked != PALDWOSK_NOT_YET) *answer = (paldwosk_answer)looked;
+  return looked != PALDWOSK_NOT_YET;
+}
+
+/* The task has come, and others haven't. It spins, yields and sleeps until the archive lets it go, or the barrier is slow. */
+PALDWOSK_INLINE uint32_t paldwoski_wait_at_seat(paldwosk_barrier *barrier, struct paldwoski_seat *seat) {
+  struct paldwoski_sleeper me = paldwoski_new_sleeper(__atomic_load_n(&seat->task, __ATOMIC_RELAXED), PALDWOSKI_CALL_NEXT, 0);
+  me.level = &seat->level;
+  if (paldwoski_is_over(&me)) return me.answer;
+  me.patience = paldwoski_patience(barrier, &me, &seat->tries);
+  me.yields = paldwoski_yields(barrier);
+  paldwoski_spin(barrier, &me);
+  if (paldwoski_is_over(&me)) return me.answer;
+  __atomic_fetch_add(&barrier->rounds->sleepers, 1, __ATOMIC_SEQ_CST);
+  paldwoski_sleep(barrier, &me);
+  __atomic_fetch_sub(&barrier->rounds->sleepers, 1, __ATOMIC_SEQ_CST);
+  return me.answer;
+}
+
+/* The task comes. The last wakes the others. */
+PALDWOSK_INLINE uint32_t paldwoski_come(paldwosk_barrier *barrier, struct paldwoski_seat *seat) {
+  __atomic_store_n(&seat->coming, seat->phase + 1, __ATOMIC_RELEASE);
+  paldwoski_release(barrier->rounds);
+  uint32_t answer = PALDWOSKI_ARCHIVE(phaser_c_level_come(&seat->level));
+  if (answer == PALDWOSK_DONE) paldwoski_wake_seats(barrier);
+  return answer;
+}
+
+/* The thread knows of the outcome. If that is CLOSED its call isn't told yet, and it still counts as coming. */
+PALDWOSK_INLINE void paldwoski_end_coming(paldwosk_barrier *barrier, struct paldwoski_seat *seat, uint32_t answer) {
+  if (answer == PALDWOSK_CLOSED) return;
+  if (answer == PALDWOSK_DONE) paldwoski_acquire(barrier->rounds);
+  if (answer == PALDWOSK_DONE) seat->phase++;
+  __atomic_store_n(&seat->coming, 0, __ATOMIC_RELEASE);
+}
+
+enum { PALDWOSKI_NOT_MADE = 999 }; /* no answer of the archive's */
+
+/* A next by the task's seat. NOT_MADE: the barrier is slow, or another is at the seat. CLOSED: it was made slow after the task
+ * had come. Else it is what the next is answered. */
+PALDWOSK_INLINE uint32_t paldwoski_next_at_seat(const paldwosk_task *task, uint64_t *phase) {
+  struct paldwoski_seat *seat = paldwoski_enter_seat(task);
+  if (!seat) return PALDWOSKI_NOT_MADE;
+  uint64_t stood = seat->phase;
+  uint32_t answer = paldwoski_come(task->barrier, seat);
+  if (answer == PALDWOSK_NOT_YET) answer = paldwoski_wait_at_seat(task->barrier, seat);
+  paldwoski_end_coming(task->barrier, seat, answer);
+  paldwoski_leave_seat(seat);
+  if (answer == PALDWOSK_DONE && phase) *phase = stood;
+  return answer;
+}
+
+/* With the lock: whether another task joins by the task's seat, and stands where that does. If it can't, or there is no
+ * memory, the phaser is to be asked. */
+PALDWOSK_INLINE int paldwoski_join_at_seat(const paldwosk_task *parent, uint32_t place) {
+  struct paldwoski_rounds *rounds = parent->barrier->rounds;
+  struct paldwoski_seat *seat = place == PALDWOSKI_NO_SEAT ? NULL : paldwoski_claim_seat(parent), *other = &rounds->seats[place];
+  uint32_t answer = PALDWOSK_NOT_YET;
+  if (!seat) return 0;
+  for (uint32_t tried = 0; answer == PALDWOSK_NOT_YET && tried < PALDWOSKI_MOST_ASKED; tried++) {
+    if (tried) paldwoski_bide(tried);
+    answer = PALDWOSKI_ARCHIVE(phaser_c_level_join(&seat->level, &other->level));
+  }
+  if (answer == PALDWOSK_DONE) other->era = seat->era;
+  if (answer == PALDWOSK_DONE) other->phase = seat->phase;
+  paldwoski_leave_seat(seat);
+  return answer == PALDWOSK_DONE;
+}
+
+/* With the lock: whether the task leaves by its seat, and isn't the last. Then those are let go for whom it was missing. If
+ * the history is full they aren't. */
+PALDWOSK_INLINE int paldwoski_leave_at_seat(const paldwosk_task *task) {
+  paldwosk_barrier *barrier = task->barrier;
+  struct paldwoski_seat *seat = barrier->tasks == 1 ? NULL : paldwoski_claim_seat(task);
+  uint32_t answer = PALDWOSK_NOT_YET;
+  if (!seat) return 0;
+  paldwoski_release(barrier->rounds);
+  for (uint32_t tried = 0; answer == PALDWOSK_NOT_YET && tried < PALDWOSKI_MOST_ASKED; tried++) {
+    if (tried) paldwoski_bide(tried);
+    answer = PALDWOSKI_ARCHIVE(phaser_c_level_leave(&seat->level));
+  }
+  int has_left = answer == PALDWOSK_DONE || answer == PALDWOSK_HISTORY_FULL;
+  if (has_left) paldwoski_remove_task(barrier, task->number);
+  if (has_left) paldwoski_wake_seats(barrier);
+  paldwoski_leave_seat(seat);
+  return has_left;
 }
 
 /* ---- Making and freeing rounds */
@@ -1671,65 +1605,64 @@ PALDWOSK_INLINE int paldwoski_new_rounds(paldwosk_barrier *barrier) {
 }
 
 PALDWOSK_INLINE void paldwoski_free_rounds(paldwosk_barrier *barrier) {
+  struct paldwoski_rounds *rounds = barrier->rounds;
+  for (int at = 0; rounds && at < PALDWOSKI_MOST_MEMBERS; at++) {
+    paldwoski_free_level(&rounds->seats[at].level);
+    paldwoski_free_level(&rounds->seats[at].given);
+  }
+  if (rounds) paldwoski_drop_level(&rounds->level);
   free(barrier->rounds_memory);
   barrier->rounds_memory = NULL;
   barrier->rounds = NULL;
 }
 
 /* Their memory is of nulls. The barrier is slow until it has a task. */
-PALDWOSK_INLINE void paldwoski_open_turn(paldwosk_barrier *barrier) {
-  struct paldwoski_rounds *rounds = barrier->rounds;
+PALDWOSK_INLINE void paldwoski_open_seats(paldwosk_barrier *barrier) {
   barrier->uneven = 0;
-  rounds->to_come = PALDWOSKI_STILL;
-  rounds->is_slow = barrier->rest = barrier->rest_left = 1;
-  for (int at = 0; at < PALDWOSKI_MOST_MEMBERS; at++) rounds->seats[at].task = PALDWOSKI_NOBODY;
-  for (int at = 0; at < PALDWOSKI_MOST_ACCUMULATORS; at++) rounds->folds[at].phase = UINT64_MAX;
+  barrier->rest = barrier->rest_left = 1;
+  for (int at = 0; at < PALDWOSKI_MOST_MEMBERS; at++) barrier->rounds->seats[at].task = PALDWOSKI_NOBODY;
 }
 
-PALDWOSK_INLINE void paldwoski_raise_turn(paldwosk_barrier *barrier) { paldwoski_raise(barrier->rounds, 0); }
+PALDWOSK_INLINE uint64_t paldwoski_next_number(const paldwosk_barrier *barrier) { return barrier->rounds->next_task; }
 
 #else
 
-PALDWOSK_INLINE void paldwoski_take_phaser(paldwosk_barrier *barrier) { (void)barrier; }
-PALDWOSK_INLINE void paldwoski_give_phaser_back(paldwosk_barrier *barrier) { (void)barrier; }
+PALDWOSK_INLINE void paldwoski_end_hold(paldwosk_barrier *barrier) { (void)barrier; }
 PALDWOSK_INLINE void paldwoski_go_slow(paldwosk_barrier *barrier) { (void)barrier; }
 PALDWOSK_INLINE void paldwoski_settle(const paldwosk_task *task) { (void)task; }
-PALDWOSK_INLINE void paldwoski_claim(const paldwosk_task *task) { (void)task; }
-PALDWOSK_INLINE void paldwoski_claim_to_join(const paldwosk_task *parent, uint32_t mode) { (void)parent, (void)mode; }
-PALDWOSK_INLINE void paldwoski_claim_to_leave(const paldwosk_task *task) { (void)task; }
+PALDWOSK_INLINE int paldwoski_can_come(const paldwosk_task *task) { return (void)task, 0; }
 
-PALDWOSK_INLINE int paldwoski_keep_send(const paldwosk_task *task, uint8_t index, int32_t value) {
-  (void)task, (void)index, (void)value;
-  return 0;
-}
-
-PALDWOSK_INLINE int paldwoski_look_at_fold(const paldwosk_task *task, uint8_t index, int64_t *value,
+PALDWOSK_INLINE int paldwoski_send_at_seat(const paldwosk_task *task, uint8_t index, int32_t value,
                                            paldwosk_answer *answer) {
-  (void)task, (void)index, (void)value, (void)answer;
-  return 0;
+  return (void)task, (void)index, (void)value, (void)answer, 0;
 }
 
-PALDWOSK_INLINE void paldwoski_want_fold(paldwosk_barrier *barrier, uint8_t index, uint32_t answer) {
-  (void)barrier, (void)index, (void)answer;
+PALDWOSK_INLINE int paldwoski_look_at_seat(const paldwosk_task *task, uint8_t index, int64_t *value,
+                                           paldwosk_answer *answer) {
+  return (void)task, (void)index, (void)value, (void)answer, 0;
 }
 
-PALDWOSK_INLINE uint32_t paldwoski_add_seat(paldwosk_barrier *barrier, uint64_t number) {
-  (void)barrier, (void)number;
-  return 0;
+PALDWOSK_INLINE int paldwoski_join_at_seat(const paldwosk_task *parent, uint32_t place) {
+  return (void)parent, (void)place, 0;
 }
 
-PALDWOSK_INLINE void paldwoski_remove_seat(paldwosk_barrier *barrier, uint64_t number) { (void)barrier, (void)number; }
-PALDWOSK_INLINE int paldwoski_has_come(const paldwosk_barrier *barrier) { return (void)barrier, 0; }
+PALDWOSK_INLINE int paldwoski_leave_at_seat(const paldwosk_task *task) { return (void)task, 0; }
+
+PALDWOSK_INLINE void paldwoski_add_seat(paldwosk_barrier *barrier, uint64_t number, uint32_t place) {
+  (void)barrier, (void)number, (void)place;
+}
+
+PALDWOSK_INLINE uint32_t paldwoski_free_place(const paldwosk_barrier *barrier) { return (void)barrier, 0; }
+PALDWOSK_INLINE uint64_t paldwoski_next_number(const paldwosk_barrier *barrier) { return (void)barrier, 0; }
+
+PALDWOSK_INLINE void paldwoski_remove_task(paldwosk_barrier *barrier, uint64_t number) {
+  paldwoski_remove_member(barrier, number);
+}
+
 PALDWOSK_INLINE int paldwoski_are_seats_left(const paldwosk_barrier *barrier) { return (void)barrier, 1; }
 PALDWOSK_INLINE int paldwoski_new_rounds(paldwosk_barrier *barrier) { return (void)barrier, 1; }
 PALDWOSK_INLINE void paldwoski_free_rounds(paldwosk_barrier *barrier) { (void)barrier; }
-PALDWOSK_INLINE void paldwoski_open_turn(paldwosk_barrier *barrier) { barrier->turn = 0; }
-
-#ifdef PALDWOSKI_BY_FUTEX
-PALDWOSK_INLINE void paldwoski_raise_turn(paldwosk_barrier *barrier) {
-  __atomic_store_n(&barrier->turn, barrier->turn + 1, __ATOMIC_RELEASE);
-}
-#endif
+PALDWOSK_INLINE void paldwoski_open_seats(paldwosk_barrier *barrier) { (void)barrier; }
 
 #endif
 
@@ -1737,17 +1670,17 @@ PALDWOSK_INLINE void paldwoski_raise_turn(paldwosk_barrier *barrier) {
 
 #ifdef PALDWOSKI_BY_FUTEX
 
-/* Gives the phaser and the lock back, and wakes the threads that the call has freed. After the unlock only threads that
+/* Gives the lock back, and wakes the threads that the call has freed. After the unlock only threads that
  * are counted as inside read the barrier; a thread's last access takes it off that count. */
 PALDWOSK_INLINE void paldwoski_unlock(paldwosk_barrier *barrier) {
   uint32_t bits = barrier->to_wake;
   barrier->to_wake = 0;
   if (bits) __atomic_fetch_add(&barrier->inside, 1, __ATOMIC_RELAXED);
   if (bits) paldwoski_raise_turn(barrier);
-  paldwoski_give_phaser_back(barrier);
+  paldwoski_end_hold(barrier);
   pthread_mutex_unlock(&barrier->lock);
   if (!bits) return;
-  paldwoski_futex(paldwoski_turn_word(barrier), 1, INT_MAX, bits);
+  paldwoski_futex(&barrier->turn, 1, INT_MAX, bits);
   __atomic_fetch_sub(&barrier->inside, 1, __ATOMIC_RELEASE);
 }
 
@@ -1784,8 +1717,7 @@ PALDWOSKI_APART void paldwoski_ask_to_leave(paldwosk_barrier *barrier, struct pa
   paldwosk_freed freed[PALDWOSK_MOST_FREED];
   size_t count = 0;
   me->answer = phaser_c_waiting_leave(&barrier->phaser, me->task, freed, PALDWOSK_MOST_FREED, &count);
-  if (me->answer == PALDWOSK_DONE) paldwoski_remove_seat(barrier, me->task);
-  if (me->answer == PALDWOSK_DONE) paldwoski_remove_member(barrier, me->task);
+  if (me->answer == PALDWOSK_DONE) paldwoski_remove_task(barrier, me->task);
   if (me->answer == PALDWOSK_DONE && barrier->trace) paldwoski_trace_left(barrier->trace, me->task);
   paldwoski_free_those(barrier, freed, count);
   if (me->answer == PALDWOSK_DONE) paldwoski_end_overdue(barrier, me->task);
@@ -1802,17 +1734,15 @@ enum { PALDWOSKI_MOST_TOLD = 16, PALDWOSKI_LINE_ROOM = 2048 }; /* sixteen tasks 
 PALDWOSK_INLINE void paldwoski_sleep_until(paldwosk_barrier *barrier, struct paldwoski_sleeper *me,
                                            const struct timespec *until) {
   enum { WAIT_BITSET = 9, IS_PRIVATE = 128 };
-  uint32_t *word = paldwoski_turn_word(barrier);
   long slept = 0;
   paldwoski_unlock(barrier);
   paldwoski_spin(barrier, me);
   do {
     uint32_t seen = paldwoski_turn(barrier);
     if (paldwoski_is_ready(me)) break;
-    slept = syscall(PALDWOSKI_TIMED_FUTEX, word, WAIT_BITSET | IS_PRIVATE, seen, until, NULL, paldwoski_bit(me->task));
+    slept = syscall(PALDWOSKI_TIMED_FUTEX, &barrier->turn, WAIT_BITSET | IS_PRIVATE, seen, until, NULL, paldwoski_bit(me->task));
   } while (slept == 0 || errno != ETIMEDOUT);
   paldwoski_lock(barrier);
-  paldwoski_take_phaser(barrier);
   me->patience = me->yields = 0; /* it has spun */
 }
 
@@ -1971,17 +1901,24 @@ PALDWOSK_INLINE paldwosk_answer paldwoski_may_enter(const paldwosk_barrier *barr
   return !barrier->forks || paldwoski_is_inherited(barrier) ? PALDWOSK_CLOSED : PALDWOSK_DONE;
 }
 
-/* Takes the lock and the phaser if it answers DONE. Tasks may come meanwhile. */
+/* Takes the lock if it answers DONE. At a fast barrier tasks may come meanwhile. */
 PALDWOSK_INLINE paldwosk_answer paldwoski_enter(paldwosk_barrier *barrier) {
   paldwosk_answer answer = paldwoski_may_enter(barrier);
   if (answer != PALDWOSK_DONE) return answer;
   paldwoski_lock(barrier);
-  paldwoski_take_phaser(barrier);
   return PALDWOSK_DONE;
 }
 
 PALDWOSK_INLINE paldwosk_answer paldwoski_enter_by(const paldwosk_task *task) {
   return task ? paldwoski_enter(task->barrier) : PALDWOSK_NULL;
+}
+
+/* For a call that wasn't made at the task's seat. Whether it can be now; else the thread has the lock. */
+PALDWOSK_INLINE int paldwoski_is_fetched(const paldwosk_task *task) {
+  paldwoski_lock(task->barrier);
+  if (!paldwoski_can_come(task)) return 0;
+  paldwoski_unlock(task->barrier);
+  return 1;
 }
 
 /* With the lock. A task passes once its running single is reported: a wait in the statement would never end. */
@@ -1997,11 +1934,10 @@ PALDWOSK_INLINE void paldwoski_begin_or_go_on(const paldwosk_task *task, struct 
   else paldwoski_begin_call(barrier, me);
 }
 
-/* The call of a task that may have to wait, with the lock and the phaser, which it gives back. */
-PALDWOSK_INLINE paldwosk_answer paldwoski_call_entered(const paldwosk_task *task, uint32_t call, uint32_t single,
+/* The call of a settled task that may have to wait, with the lock, which it gives back. */
+PALDWOSK_INLINE paldwosk_answer paldwoski_call_settled(const paldwosk_task *task, uint32_t call, uint32_t single,
                                                        uint64_t *phase) {
   struct paldwoski_sleeper me = paldwoski_new_sleeper(task->number, call, single);
-  paldwoski_settle(task);
   paldwoski_begin_or_go_on(task, &me);
   paldwoski_end_call(task->barrier, &me);
   if (me.answer == PALDWOSK_DONE && phase) *phase = me.number;
@@ -2012,18 +1948,27 @@ PALDWOSK_INLINE paldwosk_answer paldwoski_call_entered(const paldwosk_task *task
 PALDWOSK_INLINE paldwosk_answer paldwoski_call_by(const paldwosk_task *task, uint32_t call, uint32_t single,
                                                   uint64_t *phase) {
   paldwosk_answer entered = paldwoski_enter_by(task);
-  return entered == PALDWOSK_DONE ? paldwoski_call_entered(task, call, single, phase) : entered;
+  if (entered != PALDWOSK_DONE) return entered;
+  paldwoski_settle(task);
+  return paldwoski_call_settled(task, call, single, phase);
 }
 
 #ifdef PALDWOSKI_IN_ROUNDS
-/* A next: by the task's seat, or with the lock if the barrier is slow. It may be fast again once this thread has the
- * lock. */
+/* A next: by the task's seat, or with the lock if the barrier is slow. It may be fast again once this thread has the lock. A
+ * thread that had come tells its call in any case: it doesn't wait for others that had, since these may wait for it. */
 PALDWOSK_INLINE paldwosk_answer paldwoski_next_by(const paldwosk_task *task, uint64_t *phase) {
   for (;;) {
-    paldwosk_answer answer = task ? paldwoski_may_enter(task->barrier) : PALDWOSK_NULL;
-    if (answer != PALDWOSK_DONE || paldwoski_next_at_seat(task, &answer, phase)) return answer;
-    (void)paldwoski_enter(task->barrier);
-    if (!paldwoski_can_come(task)) return paldwoski_call_entered(task, PALDWOSKI_CALL_NEXT, 0, phase);
+    paldwosk_answer entered = task ? paldwoski_may_enter(task->barrier) : PALDWOSK_NULL;
+    if (entered != PALDWOSK_DONE) return entered;
+    uint32_t answer = paldwoski_next_at_seat(task, phase);
+    if (answer != PALDWOSKI_NOT_MADE && answer != PALDWOSK_CLOSED) return (paldwosk_answer)answer;
+    paldwoski_lock(task->barrier);
+    if (answer == PALDWOSK_CLOSED) paldwoski_uncount(task);
+    if (!paldwoski_can_come(task)) {
+      if (answer == PALDWOSK_CLOSED && paldwoski_is_slow(task->barrier)) paldwoski_empty_seat(task);
+      else paldwoski_settle(task);
+      return paldwoski_call_settled(task, PALDWOSKI_CALL_NEXT, 0, phase);
+    }
     paldwoski_unlock(task->barrier);
   }
 }
@@ -2042,13 +1987,29 @@ PALDWOSKI_APART paldwosk_answer paldwoski_call_in_time(const paldwosk_task *task
   return (paldwosk_answer)me.answer;
 }
 
-/* With the lock: adds a task that the phaser has registered. */
+/* With the lock: adds a task that the phaser has registered, at this seat. */
 PALDWOSK_INLINE paldwosk_task paldwoski_new_task(paldwosk_barrier *barrier, uint64_t parent, uint32_t mode,
-                                                 uint64_t number) {
-  paldwosk_task task = {barrier, number, 0};
+                                                 uint64_t number, uint32_t place) {
+  paldwosk_task task = {barrier, number, place};
+  if (barrier->trace) paldwoski_trace_new_task(barrier->trace, parent, mode, number);
   paldwoski_add_member(barrier, parent, mode, number);
-  task.seat = paldwoski_add_seat(barrier, number);
+  paldwoski_add_seat(barrier, number, place);
   return task;
+}
+
+/* With the lock: another task joins by this one, by its seat if that can be, and is added. */
+PALDWOSK_INLINE paldwosk_answer paldwoski_join(const paldwosk_task *parent, uint32_t mode, paldwosk_task *task) {
+  paldwosk_barrier *barrier = parent->barrier;
+  uint32_t place = paldwoski_free_place(barrier);
+  uint64_t number = paldwoski_next_number(barrier);
+  if (mode != PALDWOSK_SIG_WAIT || !paldwoski_join_at_seat(parent, place)) {
+    paldwoski_settle(parent);
+    uint32_t answer = phaser_c_waiting_register(&barrier->phaser, parent->number, mode, &number);
+    if (answer != PALDWOSK_DONE) return (paldwosk_answer)answer;
+    place = paldwoski_free_place(barrier);
+  }
+  *task = paldwoski_new_task(barrier, parent->number, mode, number, place);
+  return PALDWOSK_DONE;
 }
 
 /* The task that has run its single reports that, and passes. */
@@ -2135,7 +2096,8 @@ PALDWOSK_INLINE void paldwoski_open(paldwosk_barrier *barrier) {
   barrier->overdue = NULL;
   barrier->spare = barrier->room;
   for (int at = 0; at < PALDWOSKI_MOST_MEMBERS - 1; at++) barrier->room[at].next = &barrier->room[at + 1];
-  paldwoski_open_turn(barrier);
+  barrier->turn = 0;
+  paldwoski_open_seats(barrier);
   barrier->forks_then = __atomic_load_n(&paldwoski_forks, __ATOMIC_RELAXED);
   barrier->forks = &paldwoski_forks;
 }
@@ -2233,7 +2195,8 @@ PALDWOSK_INLINE paldwosk_answer paldwosk_barrier_free(paldwosk_barrier *barrier)
   for (uint32_t tried = 0;; tried++) {
     paldwosk_answer entered = paldwoski_enter(barrier);
     if (entered != PALDWOSK_DONE) return entered;
-    int is_busy = barrier->first || barrier->coming || paldwoski_has_come(barrier);
+    paldwoski_go_slow(barrier);
+    int is_busy = barrier->first || barrier->coming;
     int is_left = __atomic_load_n(&barrier->inside, __ATOMIC_ACQUIRE) == 0 && paldwoski_are_seats_left(barrier);
     if (!is_busy && is_left) break;
     paldwoski_unlock(barrier);
@@ -2255,11 +2218,10 @@ PALDWOSK_INLINE paldwosk_answer paldwosk_barrier_make(paldwosk_barrier *barrier,
   paldwosk_answer answer = task ? paldwoski_enter(barrier) : PALDWOSK_NULL;
   if (answer != PALDWOSK_DONE) return answer;
   uint64_t number = 0;
+  paldwoski_go_slow(barrier);
   answer = (paldwosk_answer)phaser_c_waiting_make(&barrier->phaser, (uint32_t)mode, &number);
-  if (answer == PALDWOSK_DONE) {
-    if (barrier->trace) paldwoski_trace_new_task(barrier->trace, number, (uint32_t)mode, number);
-    *task = paldwoski_new_task(barrier, number, (uint32_t)mode, number);
-  }
+  if (answer == PALDWOSK_DONE)
+    *task = paldwoski_new_task(barrier, number, (uint32_t)mode, number, paldwoski_free_place(barrier));
   paldwoski_unlock(barrier);
   return answer;
 }
@@ -2273,13 +2235,7 @@ PALDWOSK_INLINE paldwosk_answer paldwosk_barrier_join(const paldwosk_task *paren
   paldwosk_answer answer = task ? paldwoski_enter_by(parent) : PALDWOSK_NULL;
   if (answer != PALDWOSK_DONE) return answer;
   paldwosk_barrier *barrier = parent->barrier;
-  uint64_t number = 0;
-  paldwoski_claim_to_join(parent, (uint32_t)mode);
-  answer = (paldwosk_answer)phaser_c_waiting_register(&barrier->phaser, parent->number, (uint32_t)mode, &number);
-  if (answer == PALDWOSK_DONE) {
-    if (barrier->trace) paldwoski_trace_new_task(barrier->trace, parent->number, (uint32_t)mode, number);
-    *task = paldwoski_new_task(barrier, parent->number, (uint32_t)mode, number);
-  }
+  answer = paldwoski_join(parent, (uint32_t)mode, task);
   paldwoski_unlock(barrier);
   return answer;
 }
@@ -2318,10 +2274,11 @@ PALDWOSK_MUST_CHECK
 PALDWOSK_INLINE paldwosk_answer paldwosk_barrier_send(const paldwosk_task *task, uint32_t accumulator, int32_t value) {
   paldwosk_answer answer = task ? paldwoski_may_enter(task->barrier) : PALDWOSK_NULL;
   uint8_t index = accumulator < 255 ? (uint8_t)accumulator : 255; /* there are four at most */
-  if (answer != PALDWOSK_DONE || paldwoski_keep_send(task, index, value)) return answer;
+  do {
+    if (answer != PALDWOSK_DONE || paldwoski_send_at_seat(task, index, value, &answer)) return answer;
+  } while (paldwoski_is_fetched(task));
   paldwosk_barrier *barrier = task->barrier;
-  (void)paldwoski_enter(barrier);
-  paldwoski_claim(task);
+  paldwoski_settle(task);
   answer = (paldwosk_answer)phaser_c_waiting_send(&barrier->phaser, task->number, index, value);
   if (answer == PALDWOSK_DONE && barrier->trace)
     paldwoski_trace_act(barrier->trace, PALDWOSKI_EVENT_SEND, task->number, index, value);
@@ -2336,17 +2293,18 @@ PALDWOSK_MUST_CHECK
 PALDWOSK_INLINE paldwosk_answer paldwosk_barrier_look(const paldwosk_task *task, uint32_t accumulator, int64_t *value) {
   paldwosk_answer answer = task && value ? paldwoski_may_enter(task->barrier) : PALDWOSK_NULL;
   uint8_t index = accumulator < 255 ? (uint8_t)accumulator : 255;
-  if (answer != PALDWOSK_DONE || paldwoski_look_at_fold(task, index, value, &answer)) return answer;
+  do {
+    if (answer != PALDWOSK_DONE || paldwoski_look_at_seat(task, index, value, &answer)) return answer;
+  } while (paldwoski_is_fetched(task));
   paldwosk_barrier *barrier = task->barrier;
   int64_t seen = 0;
-  (void)paldwoski_enter(barrier);
+  paldwoski_settle(task);
   answer = (paldwosk_answer)phaser_c_waiting_look(&barrier->phaser, task->number, index, &seen);
   if (answer == PALDWOSK_DONE) *value = seen;
   if (barrier->trace && answer == PALDWOSK_DONE)
     paldwoski_trace_act(barrier->trace, PALDWOSKI_EVENT_LOOK, task->number, index, seen);
   if (barrier->trace && answer == PALDWOSK_NOTHING)
     paldwoski_trace_act(barrier->trace, PALDWOSKI_EVENT_LOOK_AT_NOTHING, task->number, index, 0);
-  paldwoski_want_fold(barrier, index, answer);
   paldwoski_unlock(barrier);
   return answer;
 }
@@ -2439,8 +2397,12 @@ PALDWOSK_INLINE paldwosk_answer paldwosk_barrier_leave(const paldwosk_task *task
   paldwosk_answer entered = paldwoski_enter_by(task);
   if (entered != PALDWOSK_DONE) return entered;
   struct paldwoski_sleeper me = paldwoski_new_sleeper(task->number, PALDWOSKI_CALL_WAIT, 0);
-  paldwoski_claim_to_leave(task);
-  paldwoski_ask_to_leave(task->barrier, &me);
+  if (paldwoski_leave_at_seat(task)) {
+    me.answer = PALDWOSK_DONE;
+  } else {
+    paldwoski_settle(task);
+    paldwoski_ask_to_leave(task->barrier, &me);
+  }
   paldwoski_end_call(task->barrier, &me);
   return (paldwosk_answer)me.answer;
 }

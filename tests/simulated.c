@@ -46,8 +46,8 @@
 #define sysconf(which) simulated_processors()
 #define free simulated_free
 
-/* The archive's calls use its memory. */
-#define AT(phaser) (use_all(phaser, sizeof *(phaser)), (phaser))
+/* The archive's calls use its memory, and that of their handles. */
+#define AT(place) (use_all(place, sizeof *(place)), (place))
 #define phaser_c_waiting_send(phaser, ...) phaser_c_waiting_send(AT(phaser), __VA_ARGS__)
 #define phaser_c_waiting_look(phaser, ...) phaser_c_waiting_look(AT(phaser), __VA_ARGS__)
 #define phaser_c_waiting_signal(phaser, ...) phaser_c_waiting_signal(AT(phaser), __VA_ARGS__)
@@ -56,7 +56,64 @@
 #define phaser_c_waiting_register(phaser, ...) phaser_c_waiting_register(AT(phaser), __VA_ARGS__)
 #define phaser_c_waiting_leave(phaser, ...) phaser_c_waiting_leave(AT(phaser), __VA_ARGS__)
 #define phaser_c_waiting_level(phaser, ...) phaser_c_waiting_level(AT(phaser), __VA_ARGS__)
-#define phaser_c_waiting_round(phaser, ...) phaser_c_waiting_round(AT(phaser), __VA_ARGS__)
+
+/* Of the archive's atomics two order what the header does. A come, a join, a leave and a close change the one. Whoever ends a
+ * round, or closes, raises the other, at which a look looks. All of it is sequentially consistent, and here one step. */
+enum { COUNT, OVER };
+
+static void begin_change(paldwosk_level_task *task) {
+  use_all(task, sizeof *task);
+  begin_step();
+  change_word(COUNT);
+}
+
+static uint32_t raised(uint32_t answer) {
+  if (answer == PALDWOSK_DONE) change_word(OVER);
+  return answer;
+}
+
+static uint32_t simulated_come(paldwosk_level_task *task) {
+  begin_change(task);
+  return raised(phaser_c_level_come(task));
+}
+
+static uint32_t simulated_leave(paldwosk_level_task *task) {
+  begin_change(task);
+  return raised(phaser_c_level_leave(task));
+}
+
+static uint32_t simulated_join(paldwosk_level_task *task, paldwosk_level_task *other) {
+  use_all(other, sizeof *other);
+  begin_change(task);
+  return phaser_c_level_join(task, other);
+}
+
+static uint32_t simulated_close(paldwosk_level *level, paldwosk_waiting *phaser) {
+  use_all(level, sizeof *level);
+  use_all(phaser, sizeof *phaser);
+  begin_step();
+  change_word(COUNT);
+  return raised(phaser_c_level_close(level, phaser));
+}
+
+static uint32_t simulated_look(paldwosk_level_task *task) {
+  use_all(task, sizeof *task);
+  begin_step();
+  load_word(OVER);
+  return phaser_c_level_look(task);
+}
+
+#define phaser_c_level_come simulated_come
+#define phaser_c_level_leave simulated_leave
+#define phaser_c_level_join simulated_join
+#define phaser_c_level_close simulated_close
+#define phaser_c_level_look simulated_look
+#define phaser_c_level_send(task, ...) phaser_c_level_send(AT(task), __VA_ARGS__)
+#define phaser_c_level_look_at(task, ...) phaser_c_level_look_at(AT(task), __VA_ARGS__)
+#define phaser_c_level_open(level, phaser, ...) phaser_c_level_open(AT(level), AT(phaser), __VA_ARGS__)
+#define phaser_c_level_take(level, task) phaser_c_level_take(AT(level), AT(task))
+#define phaser_c_level_kept(task, ...) phaser_c_level_kept(AT(task), __VA_ARGS__)
+#define phaser_c_level_free(task) phaser_c_level_free(AT(task))
 
 #include "paldwosk_barrier.h"
 #undef free

@@ -13,7 +13,8 @@
  *
  * PLAIN MEMORY has its newest value. Two accesses to a byte, one of which writes, have to be ordered by what was released
  * and acquired: else it is a race, and ends the episode. So an order that is too weak for plain memory is found, and
- * no value need be stale. What the archive does in its memory isn't seen, but that it is called.
+ * no value need be stale. What the archive does in its memory isn't seen, but that it is called, and which of its
+ * atomics it changes or loads. A call is one step, and orders those who change and load the same.
  *
  * SLEEPING is by futex. The kernel may see a stale value of the word, but none that is older than what a thread had seen
  * that has looked for sleepers before. A sleeper goes on for no reason now and then.
@@ -81,7 +82,7 @@ static char stacks[MOST_FIBERS][STACK] __attribute__((aligned(64)));
 static struct cell cells[CELLS];
 static uint16_t cell_places[CELL_PLACES];
 static struct shadow shadows[SHADOW_PLACES];
-static struct seen by_lock, told;
+static struct seen by_lock, told, by_word[2];
 static void *freed[MOST_FREED];
 static uintptr_t hidden, hidden_end;
 static uint64_t state, steps, episode;
@@ -408,6 +409,14 @@ static int compare_exchange(volatile void *place, uint64_t *expected, uint64_t v
   return 1;
 }
 
+void begin_step(void) { step(); }
+void load_word(int word) { join_seen(&fibers[me].seen, &by_word[word]); }
+
+void change_word(int word) {
+  load_word(word);
+  release_into(&by_word[word]);
+}
+
 /* ---- The lock, and sleeping. There is one lock. */
 
 int simulated_init(pthread_mutex_t *lock) {
@@ -509,6 +518,7 @@ int run_episode(uint64_t seed, void (*body)(int), int are_judged, char *room, si
   memset(cell_places, 0, sizeof cell_places);
   memset(&by_lock, 0, sizeof by_lock);
   memset(&told, 0, sizeof told);
+  memset(by_word, 0, sizeof by_word);
   cell_count = me = ending = 0;
   owner = -1;
   fiber_count = 1;
@@ -547,6 +557,18 @@ PLAIN(8)
 PLAIN(16)
 
 void __tsan_init(void);
+void __tsan_acquire(void *at);
+void __tsan_release(void *at);
+void AnnotateIgnoreReadsBegin(const char *file, int line);
+void AnnotateIgnoreReadsEnd(const char *file, int line);
+void AnnotateIgnoreWritesBegin(const char *file, int line);
+void AnnotateIgnoreWritesEnd(const char *file, int line);
+void __tsan_acquire(void *at) { (void)at; } /* what the header tells the sanitizer orders nothing here */
+void __tsan_release(void *at) { (void)at; }
+void AnnotateIgnoreReadsBegin(const char *file, int line) { (void)file, (void)line; }
+void AnnotateIgnoreReadsEnd(const char *file, int line) { (void)file, (void)line; }
+void AnnotateIgnoreWritesBegin(const char *file, int line) { (void)file, (void)line; }
+void AnnotateIgnoreWritesEnd(const char *file, int line) { (void)file, (void)line; }
 void __tsan_func_entry(void *from);
 void __tsan_func_exit(void);
 void __tsan_read_range(void *at, size_t size);

@@ -28,6 +28,9 @@ void hide_memory(const void *start, size_t size);    /* the test's own, which is
 void write_hidden(uint32_t *place, uint32_t value);
 void use_all(const void *start, size_t size); /* as if it were written */
 void overwrite(void *start, size_t size);
+void begin_step(void);      /* another fiber may go on before it, and none in the midst of it */
+void change_word(int word); /* an atomic of the archive's: 0 or 1 */
+void load_word(int word);
 
 /* ---- What the header calls in place of the system's */
 

@@ -23,17 +23,23 @@
  * waiting hasty THREADS PHASES: turns of threads as in stress, whose calls have a time that is often too short.
  * waiting crowd SECONDS SEED VISITORS KIND: so many threads that join, leave, and make any calls, at barriers with and
  *   without a trace. KIND 1: all calls leave the barrier fast; 2: nearly all, so that it is slow and fast in turn.
- * waiting rounds THREADS PHASES MOST: turns of threads as in stress, all of which are made in rounds.
+ * waiting rounds THREADS PHASES MOST: turns of threads as in stress, all of which are made at a fast barrier.
  * waiting uneven THREADS PHASES MOST: the same with signals, waits and times, so that few are.
- * waiting refused: rounds of which a call is refused. The program has it if it is compiled with WITH_REFUSED_ROUNDS.
+ * waiting refused: calls of the archive that are refused. The program has it if it is compiled with WITH_REFUSALS.
  * waiting changing: calls that make a fast barrier slow, while tasks have come; after each it is fast again.
  * waiting prioritized: threads of two priorities on one processor, the higher of which waits for the lower.
  * Status 4: something wasn't as it must be, which standard error names. Status 5: there was no thread, or no memory. */
-#ifdef WITH_REFUSED_ROUNDS
+#ifdef WITH_REFUSALS
 #include "../include/paldwosk.h"
-#define phaser_c_waiting_round refusing_round /* the header calls it in the archive's place */
-static uint32_t refusing_round(paldwosk_waiting *phaser, const paldwosk_given_send *sends, size_t send_count,
-                               const uint64_t *tasks, size_t task_count, uint64_t phase, size_t *made);
+/* The header calls these in the archive's place. */
+#define phaser_c_level_open refusing_open
+#define phaser_c_level_take refusing_take
+#define phaser_c_level_join refusing_join
+#define phaser_c_level_leave refusing_leave
+static uint32_t refusing_open(paldwosk_level *level, paldwosk_waiting *phaser, const uint64_t *tasks, size_t count);
+static uint32_t refusing_take(paldwosk_level *level, paldwosk_level_task *task);
+static uint32_t refusing_join(paldwosk_level_task *task, paldwosk_level_task *other);
+static uint32_t refusing_leave(paldwosk_level_task *task);
 #endif
 __attribute__((unused)) static void hold_between_looks(void); /* the portable way has no seats */
 #define PALDWOSKI_BETWEEN_LOOKS() hold_between_looks()
@@ -125,25 +131,39 @@ OF_LIBC int sched_yield(void) AS_IN_LIBC {
 #ifdef PALDWOSKI_IN_ROUNDS
 enum { HAS_ROUNDS = 1 };
 static int is_fast(const paldwosk_barrier *barrier) { return !paldwoski_is_slow(barrier); }
-static uint64_t phase_of_rounds(const paldwosk_barrier *barrier) { return barrier->rounds->phase; }
-static unsigned rounds_of(const paldwosk_barrier *barrier) { return barrier->rounds->ended; }
 
-/* With the lock: how many have come, and wait. */
+/* How often it has become fast or slow. */
+static uint64_t changes_of(const paldwosk_barrier *barrier) {
+  return __atomic_load_n(&barrier->rounds->era, __ATOMIC_SEQ_CST);
+}
+
+/* With the lock, at a fast barrier, by the task's own thread: where the task stands. */
+static uint64_t phase_at_seat(const paldwosk_task *task) {
+  const struct paldwoski_seat *seat = paldwoski_seat_of(task);
+  return seat->era == changes_of(task->barrier) ? seat->phase : task->barrier->rounds->opened;
+}
+
+/* With the lock: how many have come at a fast barrier, and wait, or don't know yet that they needn't. */
 static unsigned count_come(const paldwosk_barrier *barrier) {
-  uint64_t word = __atomic_load_n(&barrier->rounds->to_come, __ATOMIC_RELAXED);
-  return word < PALDWOSKI_SLOW ? barrier->tasks - (uint32_t)word : 0;
+  unsigned count = 0;
+  for (int at = 0; at < PALDWOSKI_MOST_MEMBERS; at++) {
+    const struct paldwoski_seat *seat = &barrier->rounds->seats[at];
+    count += is_fast(barrier) && !paldwoski_is_left(seat) && __atomic_load_n(&seat->coming, __ATOMIC_SEQ_CST) != 0;
+  }
+  return count;
 }
 #else
 enum { HAS_ROUNDS = 0 };
 static int is_fast(const paldwosk_barrier *barrier) { return (void)barrier, 0; }
-static uint64_t phase_of_rounds(const paldwosk_barrier *barrier) { return (void)barrier, 0; }
-static unsigned rounds_of(const paldwosk_barrier *barrier) { return (void)barrier, 0; }
+static uint64_t changes_of(const paldwosk_barrier *barrier) { return (void)barrier, 0; }
+static uint64_t phase_at_seat(const paldwosk_task *task) { return (void)task, 0; }
 static unsigned count_come(const paldwosk_barrier *barrier) { return (void)barrier, 0; }
 #endif
 
-/* Whether so many rounds were made so far, and the barrier is fast; without rounds it never is. */
-static int is_fast_after(paldwosk_barrier *barrier, unsigned rounds) {
-  return HAS_ROUNDS ? is_fast(barrier) && rounds_of(barrier) == rounds : !rounds_of(barrier);
+/* Whether the barrier is fast, and has been since it had changed so often. So all phases since then were made by the
+ * archive. Without rounds it never is. */
+static int is_fast_since(paldwosk_barrier *barrier, uint64_t changes) {
+  return is_fast(barrier) == HAS_ROUNDS && changes_of(barrier) == changes;
 }
 
 /* Whether as many threads as this sleep, spin or yield in calls of the barrier, in time. */
@@ -1197,11 +1217,11 @@ static void stress(int threads, int phases, uint32_t most, int are_hasty) {
   DONE(paldwosk_barrier_spin(&the_party.barrier, most));
   run_members(take_turns);
   MUST(the_party.barrier.tasks == 0);
-  if (the_party.are_even) MUST(rounds_of(&the_party.barrier) == (HAS_ROUNDS ? (unsigned)phases : 0));
+  if (the_party.are_even) MUST(changes_of(&the_party.barrier) == 2 * HAS_ROUNDS); /* fast once, until the last has left */
   DONE(paldwosk_barrier_free(&the_party.barrier));
 }
 
-/* All phases are made in rounds: no call is made that would make the barrier slow. */
+/* All phases are made at a fast barrier: no call is made that would make it slow. */
 static void rounds(int threads, int phases, uint32_t most) {
   party_mode = PALDWOSK_SIG_WAIT;
   the_party.are_even = 1;
@@ -2118,7 +2138,7 @@ static void leave_crowd(visitor *me) {
 }
 
 /* The header has noted of it what it has counted itself. If others wait, somebody keeps them waiting. At a fast barrier
- * all stand in the phase of the rounds. */
+ * its seat says where it stands. */
 static void see_itself(visitor *me) {
   uint64_t missing[THREADS];
   paldwosk_barrier *barrier = &crowd.barrier;
@@ -2127,7 +2147,7 @@ static void see_itself(visitor *me) {
   const struct paldwoski_member *member = paldwoski_member_of(barrier, me->task.number);
   MUST(member->is_there && member->mode == (unsigned)me->mode);
   MUST(member->is_ahead == (unsigned)(can_signal(me) && me->made > me->passes));
-  if (is_fast(barrier)) MUST(phase_of_rounds(barrier) == (uint64_t)me->passes);
+  if (is_fast(barrier)) MUST(phase_at_seat(&me->task) == (uint64_t)me->passes);
   else MUST(member->passes == (uint64_t)me->passes);
   if (!is_fast(barrier)) MUST((paldwoski_find_missing(barrier, missing) > 0) == (barrier->first != NULL));
   paldwoski_unlock(barrier);
@@ -2148,18 +2168,13 @@ static void *visit(void *given) {
   return NULL;
 }
 
-static struct changes {
-  int64_t rounds, others; /* phases of changing crowds that were made in rounds, and by single calls */
-} changes;
+static int have_changed; /* how many changing crowds were slow, and fast again */
 
-/* All phases of an even crowd are made in rounds: the last who leaves has passed the last of them. */
-static void see_rounds(void) {
-  int64_t most = 0, rounds = rounds_of(&crowd.barrier);
-  for (int at = 0; at < crowd.count && at < crowd.most; at++)
-    if (crowd.all[at].passes > most) most = crowd.all[at].passes;
-  if (crowd.kind == EVEN_CROWD) MUST(rounds == (HAS_ROUNDS ? most : 0));
-  changes.rounds += rounds;
-  changes.others += most - rounds;
+/* An even crowd is fast from the first task on, until the last has left. */
+static void see_changes(void) {
+  uint64_t changes = changes_of(&crowd.barrier);
+  if (crowd.kind == EVEN_CROWD) MUST(changes == 2 * HAS_ROUNDS);
+  have_changed += changes > 2;
 }
 
 static void meet(uint64_t luck, int most, int kind) {
@@ -2185,7 +2200,7 @@ static void meet(uint64_t luck, int most, int kind) {
   for (int at = 0; at < __atomic_load_n(&crowd.count, __ATOMIC_RELAXED) && at < crowd.most; at++)
     pthread_join(crowd.all[at].thread, NULL);
   if (crowd.is_traced) replay(&crowd.barrier, report, sizeof report);
-  see_rounds();
+  see_changes();
   DONE(paldwosk_barrier_free(&crowd.barrier));
 }
 
@@ -2193,7 +2208,7 @@ static void meet_for(int seconds, uint64_t seed, int most, int kind) {
   time_t until = time(NULL) + seconds;
   for (uint64_t round = 1; !faults && (round == 1 || time(NULL) < until); round++)
     meet((seed + 1) * 0x9e3779b97f4a7c15u + round * 0xbf58476d1ce4e5b9u, most, kind);
-  if (kind == CHANGING_CROWD && HAS_ROUNDS && !faults) MUST(changes.rounds > 0 && changes.others > 0);
+  if (kind == CHANGING_CROWD && HAS_ROUNDS && !faults) MUST(have_changed > 0);
 }
 
 /* ---- What holds of other people's barriers. Each says whose tests have it, in words; the code is ours. */
@@ -2395,9 +2410,9 @@ static void end_phase_of_trio(void) {
 static void speed_trio_up(void) {
   for (int done = 0; HAS_ROUNDS && !is_fast(&trio.barrier) && done < 70; done++) end_phase_of_trio();
   MUST(is_fast(&trio.barrier) == HAS_ROUNDS);
-  unsigned before = rounds_of(&trio.barrier);
+  uint64_t before = changes_of(&trio.barrier);
   end_phase_of_trio();
-  MUST(is_fast_after(&trio.barrier, before + HAS_ROUNDS));
+  MUST(is_fast_since(&trio.barrier, before));
 }
 
 /* So many of its tasks have come. */
@@ -2442,8 +2457,8 @@ static void changed_by_refusals(void) {
   DONE(paldwosk_barrier_next(&trio.tasks[2], NULL));
   end_trio(2);
   begin_trio(2);
-  MUST(paldwosk_barrier_free(&trio.barrier) == PALDWOSK_NOT_NOW); /* and it is still fast */
-  MUST(is_fast(&trio.barrier) == HAS_ROUNDS);
+  MUST(paldwosk_barrier_free(&trio.barrier) == PALDWOSK_NOT_NOW);
+  MUST(are_parked(&trio.barrier, 2));
   DONE(paldwosk_barrier_next(&trio.tasks[2], NULL));
   end_trio(2);
 }
@@ -2541,49 +2556,69 @@ static void changed_by_leave(void) {
 static void ended_by_leave(void) {
   paldwosk_task late = PALDWOSK_NO_TASK;
   speed_trio_up();
-  unsigned before = rounds_of(&trio.barrier);
+  uint64_t before = changes_of(&trio.barrier);
   DONE(paldwosk_barrier_join(&trio.tasks[0], PALDWOSK_SIG_WAIT, &late));
   DONE(paldwosk_barrier_send(&late, 0, 40)); /* it counts though the task leaves */
   for (int at = 0; at < 3; at++) begin_call(&trio.calls[at], trio.tasks[at], 'n');
   MUST(are_parked(&trio.barrier, 3));
   DONE(paldwosk_barrier_leave(&late));
   end_trio(3);
-  MUST(is_fast_after(&trio.barrier, before + HAS_ROUNDS));
+  MUST(is_fast_since(&trio.barrier, before));
   int64_t value = 77;
   DONE(paldwosk_barrier_look(&trio.tasks[1], 0, &value));
   MUST(value == 40);
   MUST(paldwosk_barrier_send(&late, 0, 1) == PALDWOSK_NOT_REGISTERED); /* it has no seat any more */
   MUST(paldwosk_barrier_look(&late, 0, &value) == PALDWOSK_NOT_REGISTERED);
   MUST(paldwosk_barrier_join(&late, PALDWOSK_SIG_WAIT, &late) == PALDWOSK_NOT_REGISTERED);
-  MUST(is_fast_after(&trio.barrier, before + HAS_ROUNDS));
   MUST(paldwosk_barrier_next(&late, NULL) == PALDWOSK_NOT_REGISTERED);
   end_phase_of_trio();
 }
 
-/* While another has the lock all come: it ends the round when it gives the lock back. */
-static void ended_by_holder(void) {
+/* While another has the lock all come: they go on, since none of them needs it. */
+static void all_come_beside_the_holder(void) {
   speed_trio_up();
-  unsigned before = rounds_of(&trio.barrier);
+  uint64_t before = changes_of(&trio.barrier);
   DONE(paldwoski_enter(&trio.barrier));
-  for (int at = 0; at < 3; at++) begin_call(&trio.calls[at], trio.tasks[at], 'n');
-  for (int tried = 0; tried < 20000 && count_come(&trio.barrier) != 3 * HAS_ROUNDS; tried++) rest(1);
-  MUST(count_come(&trio.barrier) == 3 * HAS_ROUNDS && rounds_of(&trio.barrier) == before);
+  for (int at = 0; at < 3 * HAS_ROUNDS; at++) begin_call(&trio.calls[at], trio.tasks[at], 'n');
+  if (HAS_ROUNDS) end_trio(3);
+  MUST(is_fast_since(&trio.barrier, before));
   paldwoski_unlock(&trio.barrier);
-  end_trio(3);
-  MUST(is_fast_after(&trio.barrier, before + HAS_ROUNDS));
 }
 
-/* The same, and the holder makes the barrier slow: it has to end the round first. */
-static void ended_by_holder_who_changes_it(void) {
+/* The same, and the holder makes the barrier slow while two have come: it gives the lock back until both have told. */
+static void changed_by_holder(void) {
   speed_trio_up();
-  unsigned before = rounds_of(&trio.barrier);
   DONE(paldwoski_enter(&trio.barrier));
-  for (int at = 0; at < 3; at++) begin_call(&trio.calls[at], trio.tasks[at], 'n');
-  for (int tried = 0; tried < 20000 && count_come(&trio.barrier) != 3 * HAS_ROUNDS; tried++) rest(1);
+  for (int at = 0; at < 2; at++) begin_call(&trio.calls[at], trio.tasks[at], 'n');
+  for (int tried = 0; tried < 20000 && count_come(&trio.barrier) != 2 * HAS_ROUNDS; tried++) rest(1);
   paldwoski_go_slow(&trio.barrier);
-  MUST(rounds_of(&trio.barrier) == before + HAS_ROUNDS && !is_fast(&trio.barrier));
+  unsigned told = 0;
+  for (struct paldwoski_sleeper *at = trio.barrier.first; at; at = at->next) told++;
+  MUST(!is_fast(&trio.barrier) && told == 2 * HAS_ROUNDS);
   paldwoski_unlock(&trio.barrier);
-  end_trio(3);
+  DONE(paldwosk_barrier_next(&trio.tasks[2], NULL));
+  end_trio(2);
+}
+
+/* A value is kept, and the barrier is slow and fast again, twice, before its task comes. It counts once. */
+static void kept_over_changes(void) {
+  int64_t value = 77;
+  size_t count = 77;
+  speed_trio_up();
+  DONE(paldwosk_barrier_send(&trio.tasks[0], 0, 11));
+  for (int made = 0; made < 2; made++) {
+    uint64_t before = changes_of(&trio.barrier);
+    DONE(paldwosk_barrier_missing(&trio.barrier, NULL, 0, &count));
+    for (int tried = 0; tried < 64 && !is_fast(&trio.barrier); tried++)
+      DONE(paldwosk_barrier_missing(&trio.barrier, NULL, 0, &count));
+    MUST(is_fast_since(&trio.barrier, before + 2 * HAS_ROUNDS));
+  }
+  end_phase_of_trio();
+  DONE(paldwosk_barrier_look(&trio.tasks[1], 0, &value));
+  MUST(value == 11);
+  end_phase_of_trio();
+  DONE(paldwosk_barrier_look(&trio.tasks[1], 0, &value));
+  MUST(value == 0);
 }
 
 /* More values than a seat keeps, of two tasks: 1 + 2 + .. + 9, and 5 times 100. */
@@ -2623,9 +2658,9 @@ static void fast_without_singles(void) {
   DONE(paldwosk_barrier_wait(&root, NULL));
   MUST(!is_fast(&barrier));
   DONE(paldwosk_barrier_leave(&root));
-  MUST(is_fast_after(&barrier, 0));
+  MUST(is_fast_since(&barrier, HAS_ROUNDS));
   DONE(paldwosk_barrier_next(&task, NULL));
-  MUST(is_fast_after(&barrier, HAS_ROUNDS));
+  MUST(is_fast_since(&barrier, HAS_ROUNDS));
   DONE(paldwosk_barrier_free(&barrier));
 }
 
@@ -2639,7 +2674,7 @@ static void slow_for_good(void) {
     setenv("PALDWOSK_WATCH", "0", 1);
     DONE(paldwosk_barrier_make(&barrier, PALDWOSK_SIG_WAIT, &task));
     DONE(paldwosk_barrier_next(&task, NULL));
-    MUST(!is_fast(&barrier) && rounds_of(&barrier) == 0);
+    MUST(!is_fast(&barrier) && changes_of(&barrier) == 0);
     DONE(paldwosk_barrier_free(&barrier));
   }
 }
@@ -2655,32 +2690,39 @@ static void *signal_third(void *unused) {
   return NULL;
 }
 
-/* Task 0 has taken 1 from the count, and its seat doesn't say yet that it has come. Whoever makes the barrier slow waits
- * for that, and only then tells the phaser of it. */
-static void come_and_not_said(void) {
+/* The rest of a next, whose task has come or comes now. If the barrier is slow the thread tells its call with the lock. */
+static paldwosk_answer end_by_hand(const paldwosk_task *task, struct paldwoski_seat *seat, int has_come, uint64_t *phase) {
+  uint32_t answer = has_come ? (uint32_t)PALDWOSK_NOT_YET : paldwoski_come(task->barrier, seat);
+  if (answer == PALDWOSK_NOT_YET) answer = paldwoski_wait_at_seat(task->barrier, seat);
+  paldwoski_end_coming(task->barrier, seat, answer);
+  *phase = seat->phase - 1;
+  paldwoski_leave_seat(seat);
+  if (answer != PALDWOSK_CLOSED) return (paldwosk_answer)answer;
+  paldwoski_lock(task->barrier);
+  paldwoski_uncount(task);
+  paldwoski_empty_seat(task);
+  return paldwoski_call_settled(task, PALDWOSKI_CALL_NEXT, 0, phase);
+}
+
+/* Task 0 has come, or is only about to. Whoever makes the barrier slow waits until its thread has told its call, before it
+ * makes its own. So does whoever finds the barrier slow. */
+static void come_and_not_told(int is_about_to) {
   pthread_t thread;
   uint64_t phase = 77;
-  paldwosk_answer answer = PALDWOSK_NOT_YET;
   speed_trio_up();
-  struct paldwoski_rounds *rounds = trio.barrier.rounds;
   struct paldwoski_seat *seat = paldwoski_enter_seat(&trio.tasks[0]);
-  MUST(seat == &rounds->seats[trio.tasks[0].seat]);
-  seat->call.turn = __atomic_load_n(&rounds->whole, __ATOMIC_SEQ_CST);
-  MUST(__atomic_fetch_sub(&rounds->to_come, 1, __ATOMIC_SEQ_CST) == 3);
+  MUST(seat == &trio.barrier.rounds->seats[trio.tasks[0].seat]);
+  if (is_about_to) __atomic_store_n(&seat->coming, seat->phase + 1, __ATOMIC_RELEASE);
+  else MUST(paldwoski_come(&trio.barrier, seat) == PALDWOSK_NOT_YET);
   has_signalled = 0;
   start(&thread, signal_third, NULL);
-  for (int tried = 0; tried < 20000 && !__atomic_load_n(&rounds->is_slow, __ATOMIC_SEQ_CST); tried++) rest(1);
+  for (int tried = 0; tried < 20000 && changes_of(&trio.barrier) % 2; tried++) rest(1);
+  begin_call(&trio.calls[1], trio.tasks[1], 'n');
   rest(20);
   MUST(!__atomic_load_n(&has_signalled, __ATOMIC_SEQ_CST));
-  __atomic_store_n(&seat->came, trio.phase + 1, __ATOMIC_RELEASE);
-  __atomic_store_n(&seat->inside, PALDWOSKI_SEATED, __ATOMIC_RELEASE);
+  MUST(end_by_hand(&trio.tasks[0], seat, !is_about_to, &phase) == PALDWOSK_DONE && phase == trio.phase);
   pthread_join(thread, NULL);
-  MUST(are_parked(&trio.barrier, 1));
-  DONE(paldwosk_barrier_next(&trio.tasks[1], &phase));
-  paldwoski_wait_at_seat(&trio.barrier, seat);
-  answer = paldwoski_answer_at_seat(seat, &phase);
-  paldwoski_leave_seat(seat);
-  MUST(answer == PALDWOSK_DONE && phase == trio.phase);
+  end_call(&trio.calls[1], PALDWOSK_DONE, trio.phase);
   DONE(paldwosk_barrier_wait(&trio.tasks[2], &phase));
   trio.phase++;
 }
@@ -2701,16 +2743,16 @@ static void held_between_looks(void) {
   pthread_t thread;
   int64_t value = 77;
   speed_trio_up();
-  struct paldwoski_seat *seat = &trio.barrier.rounds->seats[trio.tasks[2].seat];
+  const struct paldwoski_seat *seat = &trio.barrier.rounds->seats[trio.tasks[2].seat];
   is_held = is_to_go = has_sent = 0;
   start(&thread, send_third, NULL);
   for (int tried = 0; tried < 20000 && !__atomic_load_n(&is_held, __ATOMIC_SEQ_CST); tried++) rest(1);
   DONE(paldwoski_enter(&trio.barrier));
   paldwoski_settle(&trio.tasks[2]);
-  MUST(!is_fast(&trio.barrier) && seat->sends == 0);
+  MUST(!is_fast(&trio.barrier) && !seat->level.held);
   __atomic_store_n(&is_to_go, 1, __ATOMIC_SEQ_CST);
   rest(20);
-  MUST(!__atomic_load_n(&has_sent, __ATOMIC_SEQ_CST) && seat->sends == 0);
+  MUST(!__atomic_load_n(&has_sent, __ATOMIC_SEQ_CST) && !seat->level.held);
   paldwoski_unlock(&trio.barrier);
   pthread_join(thread, NULL);
   MUST(has_sent);
@@ -2719,27 +2761,19 @@ static void held_between_looks(void) {
   MUST(value == 5);
 }
 
-/* Task 0 is counted as come, and its seat doesn't say so yet. The last to come waits for that. */
-static void last_and_not_said(void) {
+/* Task 0 says that it comes, and hasn't yet: nobody goes on. */
+static void said_and_not_come(void) {
   uint64_t phase = 77;
   speed_trio_up();
-  struct paldwoski_rounds *rounds = trio.barrier.rounds;
-  unsigned before = rounds_of(&trio.barrier);
   struct paldwoski_seat *seat = paldwoski_enter_seat(&trio.tasks[0]);
   MUST(seat != NULL);
-  seat->call.turn = __atomic_load_n(&rounds->whole, __ATOMIC_SEQ_CST);
-  MUST(__atomic_fetch_sub(&rounds->to_come, 1, __ATOMIC_SEQ_CST) == 3);
+  __atomic_store_n(&seat->coming, seat->phase + 1, __ATOMIC_SEQ_CST);
   for (int at = 1; at < 3; at++) begin_call(&trio.calls[at], trio.tasks[at], 'n');
-  for (int tried = 0; tried < 20000 && count_come(&trio.barrier) != 3; tried++) rest(1);
+  MUST(are_parked(&trio.barrier, 3));
   rest(20);
-  MUST(rounds_of(&trio.barrier) == before);
-  __atomic_store_n(&seat->came, trio.phase + 1, __ATOMIC_RELEASE);
-  __atomic_store_n(&seat->inside, PALDWOSKI_SEATED, __ATOMIC_RELEASE);
-  paldwoski_wait_at_seat(&trio.barrier, seat);
-  MUST(paldwoski_answer_at_seat(seat, &phase) == PALDWOSK_DONE && phase == trio.phase);
-  paldwoski_leave_seat(seat);
+  MUST(count_come(&trio.barrier) == 3);
+  MUST(end_by_hand(&trio.tasks[0], seat, 0, &phase) == PALDWOSK_DONE && phase == trio.phase);
   for (int at = 1; at < 3; at++) end_call(&trio.calls[at], PALDWOSK_DONE, trio.phase);
-  MUST(rounds_of(&trio.barrier) == before + 1);
   trio.phase++;
 }
 
@@ -2758,12 +2792,11 @@ static void let_go_and_not_out(void) {
   size_t count = 77;
   speed_trio_up();
   struct paldwoski_seat *seat = paldwoski_enter_seat(&trio.tasks[2]);
-  MUST(seat && paldwoski_come(&trio.barrier, seat));
-  __atomic_store_n(&seat->inside, PALDWOSKI_SEATED, __ATOMIC_RELEASE);
+  MUST(seat && paldwoski_come(&trio.barrier, seat) == PALDWOSK_NOT_YET);
   begin_call(&trio.calls[0], trio.tasks[0], 'n');
   DONE(paldwosk_barrier_next(&trio.tasks[1], &phase));
   end_call(&trio.calls[0], PALDWOSK_DONE, trio.phase);
-  MUST(phase == trio.phase && paldwoski_is_over(&trio.barrier, &seat->call));
+  MUST(phase == trio.phase && seat->phase == trio.phase);
   DONE(paldwosk_barrier_missing(&trio.barrier, NULL, 0, &count));
   for (int tried = 0; tried < 64 && !is_fast(&trio.barrier); tried++)
     DONE(paldwosk_barrier_missing(&trio.barrier, NULL, 0, &count));
@@ -2771,8 +2804,7 @@ static void let_go_and_not_out(void) {
   has_signalled = 0;
   start(&thread, signal_third, NULL);
   MUST(does_third_wait());
-  MUST(paldwoski_answer_at_seat(seat, &phase) == PALDWOSK_DONE && phase == trio.phase);
-  paldwoski_leave_seat(seat);
+  MUST(end_by_hand(&trio.tasks[2], seat, 1, &phase) == PALDWOSK_DONE && phase == trio.phase);
   pthread_join(thread, NULL);
   trio.phase++;
   begin_call(&trio.calls[0], trio.tasks[0], 'n');
@@ -2780,22 +2812,6 @@ static void let_go_and_not_out(void) {
   end_call(&trio.calls[0], PALDWOSK_DONE, trio.phase);
   DONE(paldwosk_barrier_wait(&trio.tasks[2], &phase));
   MUST(phase == trio.phase++);
-}
-
-/* A round is over, as it were, and the others aren't let go yet. Until they are nobody has the phaser. */
-static void over_and_not_let_go(void) {
-  pthread_t thread;
-  speed_trio_up();
-  trio.barrier.rounds->ended++;
-  has_signalled = 0;
-  start(&thread, signal_third, NULL);
-  MUST(does_third_wait());
-  paldwoski_raise(trio.barrier.rounds, 1);
-  pthread_join(thread, NULL);
-  begin_call(&trio.calls[0], trio.tasks[0], 'n');
-  DONE(paldwosk_barrier_next(&trio.tasks[1], NULL));
-  end_call(&trio.calls[0], PALDWOSK_DONE, trio.phase++);
-  DONE(paldwosk_barrier_wait(&trio.tasks[2], NULL));
 }
 
 /* All seats but one are taken by threads that still wait, as it were. So one task has no seat, and the barrier is slow
@@ -2806,7 +2822,7 @@ static void without_a_seat(void) {
   call first;
   party_mode = PALDWOSK_SIG_WAIT;
   make_party(&barrier, tasks, 1);
-  for (int at = 2; at < THREADS; at++) barrier.rounds->seats[at].inside = PALDWOSKI_SEATED;
+  for (int at = 2; at < THREADS; at++) barrier.rounds->seats[at].inside = 1;
   DONE(paldwosk_barrier_join(&tasks[0], PALDWOSK_SIG_WAIT, &tasks[1]));
   MUST(is_fast(&barrier) && tasks[1].seat == 1);
   begin_call(&first, tasks[0], 'n');
@@ -2819,7 +2835,7 @@ static void without_a_seat(void) {
   DONE(paldwosk_barrier_wait(&tasks[1], NULL));
   MUST(!is_fast(&barrier));
   DONE(paldwosk_barrier_leave(&tasks[2]));
-  for (int at = 2; at < THREADS; at++) barrier.rounds->seats[at].inside = PALDWOSKI_OUTSIDE;
+  for (int at = 2; at < THREADS; at++) barrier.rounds->seats[at].inside = 0;
   DONE(paldwosk_barrier_leave(&tasks[0]));
   for (int done = 0; done < 70 && !is_fast(&barrier); done++) DONE(paldwosk_barrier_next(&tasks[1], NULL));
   MUST(is_fast(&barrier));
@@ -2842,8 +2858,9 @@ static void rests_longer(void) {
     }
     MUST(is_fast(&barrier));
   }
+  uint64_t before = changes_of(&barrier);
   for (int phase = 0; phase < 64; phase++) DONE(paldwosk_barrier_next(&task, NULL));
-  MUST(is_fast_after(&barrier, 64));
+  MUST(is_fast_since(&barrier, before));
   DONE(paldwosk_barrier_missing(&barrier, NULL, 0, &count));
   MUST(is_fast(&barrier));
   DONE(paldwosk_barrier_free(&barrier));
@@ -2869,8 +2886,8 @@ static void take_priority(int priority) {
   MUST(sched_setscheduler(0, SCHED_FIFO, &taken) == 0);
 }
 
-/* It is counted as come, and the other takes the processor before its seat says so. It has the processor only once the
- * other may take it. */
+/* It is about to come, and the other takes the processor before it does. It has the processor only once the other may take
+ * it. */
 static void *come_in_low(void *unused) {
   uint64_t phase = 77;
   (void)unused;
@@ -2878,19 +2895,14 @@ static void *come_in_low(void *unused) {
   take_priority(10);
   struct paldwoski_seat *seat = paldwoski_enter_seat(&pair.tasks[0]);
   MUST(seat != NULL);
-  seat->call.turn = __atomic_load_n(&pair.barrier.rounds->whole, __ATOMIC_SEQ_CST);
-  MUST(__atomic_fetch_sub(&pair.barrier.rounds->to_come, 1, __ATOMIC_SEQ_CST) == 2);
+  __atomic_store_n(&seat->coming, 1, __ATOMIC_SEQ_CST);
   __atomic_store_n(&pair.has_come, 1, __ATOMIC_SEQ_CST);
   while (!__atomic_load_n(&pair.has_begun, __ATOMIC_SEQ_CST)) paldwoski_pause();
-  __atomic_store_n(&seat->came, 1, __ATOMIC_RELEASE);
-  __atomic_store_n(&seat->inside, PALDWOSKI_SEATED, __ATOMIC_RELEASE);
-  paldwoski_wait_at_seat(&pair.barrier, seat);
-  MUST(paldwoski_answer_at_seat(seat, &phase) == PALDWOSK_DONE && phase == 0);
-  paldwoski_leave_seat(seat);
+  MUST(end_by_hand(&pair.tasks[0], seat, 0, &phase) == PALDWOSK_DONE && phase == 0);
   return NULL;
 }
 
-/* It asks who is missing first, or comes last at once. Both wait for the other's seat. */
+/* It asks who is missing first, and waits for the other's call; or it comes at once, and waits for the phase. */
 static void *come_in_high(void *asks) {
   uint64_t missing[2] = {77, 77};
   size_t count = 0;
@@ -2923,10 +2935,10 @@ static void prioritized(void) {
 static void of_rounds_alone(void) {
   MUST(sizeof(struct paldwoski_seat) == 128 && (uintptr_t)trio.barrier.rounds % 128 == 0);
   held_between_looks();
-  last_and_not_said();
-  come_and_not_said();
+  said_and_not_come();
+  come_and_not_told(0);
+  come_and_not_told(1);
   let_go_and_not_out();
-  over_and_not_let_go();
   without_a_seat();
   rests_longer();
 }
@@ -2938,64 +2950,96 @@ static void of_rounds_alone(void) {}
 
 #endif
 
-/* ---- Rounds of which a call is refused. After 2^62 events the archive's would be; here it is done as the test wants. */
+/* ---- Calls of the archive that are refused. For want of memory it refuses some; here that is as the test wants. */
 
-#ifdef WITH_REFUSED_ROUNDS
-#undef phaser_c_waiting_round
+#ifdef WITH_REFUSALS
+#undef phaser_c_level_open
+#undef phaser_c_level_take
+#undef phaser_c_level_join
+#undef phaser_c_level_leave
 
-static size_t calls_before; /* so many calls of the round are made, and the next is refused */
-static int is_to_refuse;
+static enum refused_call { NO_CALL, OPEN_CALL, TAKE_CALL, JOIN_CALL, LEAVE_CALL } refused_call;
+static uint32_t refused_with;
+static int taken_before; /* so many handles are taken, and the next is refused */
 
-static void make_round_call(paldwosk_waiting *phaser, const paldwosk_given_send *sends, size_t send_count,
-                            const uint64_t *tasks, size_t task_count, uint64_t phase, size_t at) {
-  static paldwosk_freed freed[PALDWOSK_MOST_FREED];
-  size_t count = 77, of_signals = at - send_count + 1, of_passes = at - send_count - task_count;
-  uint64_t number = 77;
-  if (at < send_count) {
-    MUST(phaser_c_waiting_send(phaser, sends[at].task, sends[at].accumulator, sends[at].value) == PALDWOSK_DONE);
-  } else if (at < send_count + task_count) {
-    uint64_t task = tasks[of_signals % task_count];
-    MUST(phaser_c_waiting_signal(phaser, task, freed, PALDWOSK_MOST_FREED, &count) == PALDWOSK_DONE && count == 0);
-  } else {
-    uint64_t task = tasks[of_passes];
-    uint32_t answer = phaser_c_waiting_pass(phaser, task, &number, freed, PALDWOSK_MOST_FREED, &count);
-    MUST(answer == PALDWOSK_DONE && count == 0 && number == phase);
-  }
+static uint32_t refusing_open(paldwosk_level *level, paldwosk_waiting *phaser, const uint64_t *tasks, size_t count) {
+  return refused_call == OPEN_CALL ? refused_with : phaser_c_level_open(level, phaser, tasks, count);
 }
 
-static uint32_t refusing_round(paldwosk_waiting *phaser, const paldwosk_given_send *sends, size_t send_count,
-                               const uint64_t *tasks, size_t task_count, uint64_t phase, size_t *made) {
-  if (!is_to_refuse) return phaser_c_waiting_round(phaser, sends, send_count, tasks, task_count, phase, made);
-  for (size_t at = 0; at < calls_before; at++)
-    make_round_call(phaser, sends, send_count, tasks, task_count, phase, at);
-  *made = is_to_refuse == 1 ? calls_before + 1 : 0;
-  return PALDWOSK_NOT_NOW;
+static uint32_t refusing_take(paldwosk_level *level, paldwosk_level_task *task) {
+  return refused_call == TAKE_CALL && !taken_before-- ? refused_with : phaser_c_level_take(level, task);
 }
 
-/* Two sends, three signals and three passes. The refused call and those after it are made by single calls, so all tasks
- * pass, and both values count. */
-static void refused_after(size_t calls, int how) {
+static uint32_t refusing_join(paldwosk_level_task *task, paldwosk_level_task *other) {
+  return refused_call == JOIN_CALL ? refused_with : phaser_c_level_join(task, other);
+}
+
+static uint32_t refusing_leave(paldwosk_level_task *task) {
+  return refused_call == LEAVE_CALL ? refused_with : phaser_c_level_leave(task);
+}
+
+/* The barrier can't become fast: each phase is made by calls with the lock, and its values count. */
+static void refused_to_open(int which, int taken) {
   int64_t value = 77;
+  size_t count = 77;
   speed_trio_up();
-  unsigned before = rounds_of(&trio.barrier);
-  calls_before = calls;
-  is_to_refuse = how;
   DONE(paldwosk_barrier_send(&trio.tasks[0], 0, 5));
-  DONE(paldwosk_barrier_send(&trio.tasks[2], 0, 6));
+  DONE(paldwosk_barrier_missing(&trio.barrier, NULL, 0, &count));
+  refused_call = which == OPEN_CALL ? OPEN_CALL : TAKE_CALL;
+  refused_with = PALDWOSK_MEMORY;
+  for (int phase = 0; phase < 70; phase++) {
+    taken_before = taken;
+    DONE(paldwosk_barrier_send(&trio.tasks[2], 0, 6));
+    end_phase_of_trio();
+    MUST(!is_fast(&trio.barrier));
+    DONE(paldwosk_barrier_look(&trio.tasks[1], 0, &value));
+    MUST(value == (phase ? 6 : 11));
+  }
+  refused_call = NO_CALL;
+}
+
+/* A task joins and leaves by the slow way, while another has come. */
+static void refused_to_join(uint32_t with) {
+  paldwosk_task task = PALDWOSK_NO_TASK, other = PALDWOSK_NO_TASK;
+  begin_trio(1);
+  refused_call = JOIN_CALL;
+  refused_with = with;
+  DONE(paldwosk_barrier_join(&trio.tasks[1], PALDWOSK_SIG_WAIT, &task));
+  DONE(paldwosk_barrier_join(&task, PALDWOSK_SIG_WAIT, &other));
+  MUST(!is_fast(&trio.barrier) && other.number == task.number + 1);
+  refused_call = NO_CALL;
+  DONE(paldwosk_barrier_leave(&other));
+  begin_call(&trio.calls[1], trio.tasks[1], 'n');
+  begin_call(&trio.calls[2], trio.tasks[2], 'n');
+  DONE(paldwosk_barrier_next(&task, NULL));
+  end_trio(3);
+  DONE(paldwosk_barrier_leave(&task));
+}
+
+static void refused_to_leave(void) {
+  paldwosk_task task = PALDWOSK_NO_TASK;
+  speed_trio_up();
+  DONE(paldwosk_barrier_join(&trio.tasks[1], PALDWOSK_SIG_WAIT, &task));
+  MUST(is_fast(&trio.barrier));
+  refused_call = LEAVE_CALL;
+  refused_with = PALDWOSK_NOT_YET;
+  DONE(paldwosk_barrier_leave(&task));
+  MUST(!is_fast(&trio.barrier));
+  refused_call = NO_CALL;
   end_phase_of_trio();
-  is_to_refuse = 0;
-  MUST(!is_fast(&trio.barrier) && rounds_of(&trio.barrier) == before);
-  DONE(paldwosk_barrier_look(&trio.tasks[1], 0, &value));
-  MUST(value == 11);
 }
 
 static void refused(void) {
   party_mode = PALDWOSK_SIG_WAIT;
   make_party(&trio.barrier, trio.tasks, 3);
-  for (size_t calls = 0; calls < 8; calls++) refused_after(calls, 1);
-  refused_after(0, 2); /* no call is made */
-  DONE(paldwosk_barrier_spin(&trio.barrier, 0)); /* the same while they sleep */
-  for (size_t calls = 0; calls < 8; calls++) refused_after(calls, 1);
+  for (int most = 0; most < 2; most++) {
+    DONE(paldwosk_barrier_spin(&trio.barrier, most ? PALDWOSK_MOST_PAUSES : 0));
+    refused_to_open(OPEN_CALL, 0);
+    for (int taken = 0; taken < 3; taken++) refused_to_open(TAKE_CALL, taken);
+    refused_to_join(PALDWOSK_MEMORY);
+    refused_to_join(PALDWOSK_NOT_YET);
+    refused_to_leave();
+  }
   speed_trio_up();
   DONE(paldwosk_barrier_free(&trio.barrier));
 }
@@ -3009,7 +3053,7 @@ static void refused(void) { exit(3); }
 static void changing(void) {
   void (*const bodies[])(void) = {changed_by_signal,  changed_by_refusals,      changed_by_time, changed_by_other_modes,
                                   changed_by_missing, changed_by_second_thread, changed_by_leave, ended_by_leave,
-                                  ended_by_holder,    ended_by_holder_who_changes_it, kept_and_told};
+                                  all_come_beside_the_holder, changed_by_holder, kept_over_changes, kept_and_told};
   fast_without_singles();
   slow_for_good();
   for (int most = 0; most < 2; most++) {
