@@ -12,15 +12,17 @@
  * Each call answers a paldwosk_answer, and a compiler warns if it isn't looked at. Here that is for `must`, which the
  * programs of examples/linked have.
  *
- * WHAT IS PROVED. The archive's functions phaser_c_waiting_.. say of a call that they are given which tasks it frees,
- * with which answer, in which order. By these calls no task goes on too early, and a task that waits after one still has
- * to wait. At a fast barrier one call, phaser_c_waiting_round, makes the phase of all tasks that this header lists.
- * NOT PROVED, but tested by tests/waiting, is what this header adds. At a fast barrier it counts the tasks that have
- * come, keeps what they sent, and changes between fast and slow: a fault there may let a task go on early or fold a value
- * twice. A slip of the count alone holds all up, since the last task looks at each seat. Nor is the mutex round the calls
- * proved, nor that threads spin, yield, sleep and are woken, nor what is noted of each task to say which are missing,
- * nor the trace that it writes; a replay judges that.
-
+ * WHAT IS PROVED. While a barrier is fast the archive decides who comes last, whose values count and who may go on, for all
+ * orders in which threads may call (phaser_c_level_..; promise 57 of docs/promises.md). While it is slow the functions
+ * phaser_c_waiting_.. say of a call that they are given which tasks it frees, with which answer, in which order. By these calls
+ * no task goes on too early, and a task that waits after one still has to wait.
+ * NOT PROVED, but tested by tests/waiting, is what this header adds:
+ *
+ *   - In a fast phase: that a handle of the archive's is used by one thread at a time, and that a call's answer is the archive's;
+ *     spins, yields, sleeps and wakes; and the number of the phase that is answered. If it errs in waking, tasks hang.
+ *   - In the slow way: that a call's answer gets to its thread. In the change between fast and slow: that those who had come make
+ *     their calls once, and what they kept is sent once. There a fault may let a task go early, or lose a value or fold it twice.
+ *   - The mutex, what is noted of each task to say which are missing, and the trace; a replay judges that.
  *
  * WHAT IT NEEDS. gcc or clang, C11 or C++17, and the threads of POSIX. -std=c11 does: nothing has to be defined
  * before it, and it defines nothing that changes what other headers declare. Link what paldwosk.h asks for, and
@@ -40,16 +42,21 @@
  *     12 KB of stack.
  *
  * FAST AND SLOW. On Linux with x86-64 a barrier is fast while all its tasks are SIG_WAIT, stand in one phase and haven't
- * signalled it. Then paldwosk_barrier_next takes no lock. It takes 1 from a count of the tasks that haven't come. The
- * last task to come has the phaser make the whole phase, and lets the others go. So a phase costs each task one change
- * of one word. The last also pays for a call of the phaser, some 40 ns for each task.
+ * signalled it. Then the archive has the phaser in a table, and each task has a handle. paldwosk_barrier_next takes no
+ * lock. It takes 1 from the table's count of the tasks that haven't come. The last to come makes the whole phase in that
+ * call, and lets the others go. So a phase costs each task one change of one word, and the last some 40 ns for each task.
  *
- *   - Joins in SIG_WAIT and leaves take the lock, and leave the barrier fast; tasks come meanwhile. Up to 4 values that
- *     a task sends in a phase take no lock. Nor do looks, from the second phase on in which tasks look.
- *   - A task in another mode, a signal, wait or single, a call with a time, a second thread's call for a task that waits
- *     and paldwosk_barrier_missing make it slow. Then each call takes the lock. No answer depends on it.
+ *   - Joins in SIG_WAIT and leaves take the lock, and leave the barrier fast; tasks come meanwhile. Sends and looks take
+ *     none. A task keeps one value that it sends in a phase, without asking anybody. Further ones have the phaser for a
+ *     moment each; so has each of a task numbered 256 or above, and a look after a join or such a send.
+ *   - A task in another mode, a signal, wait or single, a call with a time, a second thread's call for a task that waits,
+ *     a call for a task that has left, paldwosk_barrier_missing, _make and _free make it slow. Then each call takes the
+ *     lock. No answer depends on it.
  *   - A slow barrier is fast again once all stand in one phase and nobody waits. One that is made slow again and again
- *     stays so for longer, up to 64 such moments.
+ *     stays so for longer, up to 64 such moments. It takes memory to become fast, and for each join then. If that is
+ *     refused it stays slow, or becomes so.
+ *   - A history that is full, after 2^62 events, leaves all tasks of a fast phase stuck: the last to come is answered
+ *     HISTORY_FULL, and a call that has to make the barrier slow never returns.
  *   - A barrier that keeps a trace or is watched is always slow. So is one of a program that defines
  *     PALDWOSK_WITHOUT_ROUNDS, in all files that share it.
  *
@@ -2153,8 +2160,8 @@ PALDWOSK_INLINE paldwosk_answer paldwoski_init_barrier(paldwosk_barrier *barrier
  * task. A barrier that is there and isn't freed is left as it is: that is answered OPEN. The bound is 1 to 65,536
  * phases: no task signals a phase while a waiting task hasn't passed the phase that is so many before it. If each task
  * signals and waits, a bound of 2 adds no wait; between producers and consumers the bound is the length of the queue.
- * There is an accumulator for each of at most four operators. All memory is taken here. OPEN, BAD_OPERATORS, BAD_BOUND,
- * MEMORY. On DONE, free it by paldwosk_barrier_free. */
+ * There is an accumulator for each of at most four operators. All memory is taken here that an answer depends on. OPEN,
+ * BAD_OPERATORS, BAD_BOUND, MEMORY. On DONE, free it by paldwosk_barrier_free. */
 PALDWOSK_MUST_CHECK
 PALDWOSK_INLINE paldwosk_answer paldwosk_barrier_new(paldwosk_barrier *barrier, uint32_t bound,
                                                      const paldwosk_operator *operators, size_t count) {

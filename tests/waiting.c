@@ -2967,7 +2967,7 @@ static uint32_t refusing_open(paldwosk_level *level, paldwosk_waiting *phaser, c
 }
 
 static uint32_t refusing_take(paldwosk_level *level, paldwosk_level_task *task) {
-  return refused_call == TAKE_CALL && !taken_before-- ? refused_with : phaser_c_level_take(level, task);
+  return refused_call == TAKE_CALL && taken_before-- <= 0 ? refused_with : phaser_c_level_take(level, task);
 }
 
 static uint32_t refusing_join(paldwosk_level_task *task, paldwosk_level_task *other) {
