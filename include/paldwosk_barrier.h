@@ -1536,7 +1536,7 @@ PALDWOSK_INLINE uint32_t paldwoski_wait_at_seat(paldwosk_barrier *barrier, struc
 /* The task comes. The last wakes the others. */
 PALDWOSK_INLINE uint32_t paldwoski_come(paldwosk_barrier *barrier, struct paldwoski_seat *seat) {
   __atomic_store_n(&seat->coming, seat->phase + 1, __ATOMIC_RELEASE);
-  paldwoski_release(barrier->rounds);
+  paldwoski_release(&barrier->rounds->level);
   uint32_t answer = PALDWOSKI_ARCHIVE(phaser_c_level_come(&seat->level));
   if (answer == PALDWOSK_DONE) paldwoski_wake_seats(barrier);
   return answer;
@@ -1545,7 +1545,7 @@ PALDWOSK_INLINE uint32_t paldwoski_come(paldwosk_barrier *barrier, struct paldwo
 /* The thread knows of the outcome. If that is CLOSED its call isn't told yet, and it still counts as coming. */
 PALDWOSK_INLINE void paldwoski_end_coming(paldwosk_barrier *barrier, struct paldwoski_seat *seat, uint32_t answer) {
   if (answer == PALDWOSK_CLOSED) return;
-  if (answer == PALDWOSK_DONE) paldwoski_acquire(barrier->rounds);
+  if (answer == PALDWOSK_DONE) paldwoski_acquire(&barrier->rounds->level);
   if (answer == PALDWOSK_DONE) seat->phase++;
   __atomic_store_n(&seat->coming, 0, __ATOMIC_RELEASE);
 }
@@ -1590,7 +1590,7 @@ PALDWOSK_INLINE int paldwoski_leave_at_seat(const paldwosk_task *task) {
   struct paldwoski_seat *seat = barrier->tasks == 1 ? NULL : paldwoski_claim_seat(task);
   uint32_t answer = PALDWOSK_NOT_YET;
   if (!seat) return 0;
-  paldwoski_release(barrier->rounds);
+  paldwoski_release(&barrier->rounds->level);
   for (uint32_t tried = 0; answer == PALDWOSK_NOT_YET && tried < PALDWOSKI_MOST_ASKED; tried++) {
     if (tried) paldwoski_bide(tried);
     answer = PALDWOSKI_ARCHIVE(phaser_c_level_leave(&seat->level));

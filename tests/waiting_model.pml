@@ -46,6 +46,8 @@
 #endif
 #define ERAS 8
 #define BIT(t) (1 << (t))
+#define WHEN(is, then) if :: is -> then :: else fi
+#define FOR_ALL(what) at = 0; do :: at < THREADS -> what; at++ :: else -> break od
 
 mtype = { NOT_YET, DONE, CLOSED };
 mtype = { SPINNING, ASLEEP, READY };
@@ -72,21 +74,9 @@ hidden byte at;
 
 inline lock() { atomic { !mutex -> mutex = 1 } }
 
-inline sleep_on_turn(seen) {
-  atomic {
-    if
-    :: turn == seen -> asleep = asleep | BIT(me); !(asleep & BIT(me))
-    :: else
-    fi
-  }
-}
+inline sleep_on_turn(seen) { atomic { WHEN(turn == seen, asleep = asleep | BIT(me); !(asleep & BIT(me))) } }
 
-inline wake_seats() {
-  if
-  :: sleepers > 0 -> turn++; asleep = 0
-  :: else
-  fi
-}
+inline wake_seats() { WHEN(sleepers > 0, turn++; asleep = 0) }
 
 /* ---- The archive's calls */
 
@@ -101,56 +91,28 @@ inline look(h, at_phase, answer) {
 }
 
 /* A raise may be late: the word has the greatest number that it was raised to. */
-inline raise(h, number) {
-  atomic {
-    if
-    :: over[h] < number -> over[h] = number
-    :: else
-    fi
-  }
-}
+inline raise(h, number) { atomic { WHEN(over[h] < number, over[h] = number) } }
 
 inline come(h, answer) {
   answer = NOT_YET;
   atomic {
     count[h]--;
     had_come[me] = !is_claimed[h];
-    if
-    :: count[h] == 0 && !is_claimed[h] -> answer = DONE
-    :: else
-    fi
+    WHEN(count[h] == 0 && !is_claimed[h], answer = DONE)
   }
-  if
-  :: answer == DONE ->
-     d_step {
-       count[h] = THREADS; at = 0;
-       do
-       :: at < THREADS -> passes[at]++; had_come[at] = 0; at++
-       :: else -> break
-       od
-     }
-     raise(h, stands[me] + 1)
-  :: else
-  fi
+  WHEN(answer == DONE,
+       d_step { count[h] = THREADS; FOR_ALL(passes[at]++; had_come[at] = 0) }; raise(h, stands[me] + 1))
 }
 
 /* ---- The lock's holder */
 
 inline open_rounds() {
   d_step {
-    at = 0; is_level = (era % 2 == 0 && era + 2 < ERAS);
-    do
-    :: at < THREADS -> is_level = is_level && !is_parked[at] && passes[at] == passes[0]; at++
-    :: else -> break
-    od
-#if FAULT != 8
-    ; is_level = is_level && untold == 0 && held == 0
-#endif
+    is_level = (era % 2 == 0 && era + 2 < ERAS);
+    FOR_ALL(is_level = is_level && !is_parked[at] && passes[at] == passes[0])
+    ; is_level = is_level && (FAULT == 8 || untold == 0 && held == 0)
   }
-  if
-  :: is_level -> d_step { count[era + 1] = THREADS; over[era + 1] = passes[0]; opened = passes[0] }; era++
-  :: else
-  fi
+  WHEN(is_level, d_step { count[era + 1] = THREADS; over[era + 1] = passes[0]; opened = passes[0] }; era++)
 }
 
 inline unlock() {
@@ -166,12 +128,7 @@ inline await_told() {
   :: untold > 0 ->
      seen = untold;
      mutex = 0;
-     atomic {
-       if
-       :: untold == seen -> awaiting = awaiting | BIT(me); !(awaiting & BIT(me))
-       :: else
-       fi
-     }
+     atomic { WHEN(untold == seen, awaiting = awaiting | BIT(me); !(awaiting & BIT(me))) }
      lock()
   :: else -> break
   od;
@@ -184,18 +141,7 @@ inline close_rounds() {
   era++;
   atomic { count[h] > 0 -> is_claimed[h] = 1 };
   atomic { is_closed[h] = 1; over[h] = passes[0] };
-  d_step {
-    at = 0;
-    do
-    :: at < THREADS ->
-       if
-       :: coming[at] == passes[at] + 1 -> is_counted[at] = 1; untold++
-       :: else
-       fi;
-       at++
-    :: else -> break
-    od
-  }
+  d_step { FOR_ALL(is_counted[at] = (coming[at] == passes[at] + 1); untold = untold + is_counted[at]) }
 #if FAULT != 4
   ; wake_seats()
 #endif
@@ -203,64 +149,26 @@ inline close_rounds() {
 
 inline uncount() {
   coming[me] = 0;
-#if FAULT != 10
-  if
-  :: is_counted[me] ->
-     is_counted[me] = 0;
-     untold--;
-#if FAULT != 6
-     if
-     :: untold == 0 && held > 0 -> awaiting = 0
-     :: else
-     fi
-#endif
-  :: else
-  fi
-#endif
+  WHEN(is_counted[me] && FAULT != 10,
+       is_counted[me] = 0; untold--; WHEN(untold == 0 && held > 0 && FAULT != 6, awaiting = 0))
 }
 
 /* With the lock: the task parks. If it is the last, all are freed, and those that sleep are woken. */
 inline call_slowly() {
   d_step {
-    is_parked[me] = 1; had_come[me] = 0; at = 0; is_level = 1; bits = 0;
-    do
-    :: at < THREADS -> is_level = is_level && is_parked[at]; at++
-    :: else -> break
-    od;
-    at = 0;
-    do
-    :: at < THREADS && is_level ->
-       is_parked[at] = 0;
-       passes[at]++;
-       bits = bits | (state[at] == ASLEEP -> BIT(at) : 0);
-       state[at] = READY;
-       at++
-    :: else -> break
-    od
+    is_parked[me] = 1; had_come[me] = 0; is_level = 1; bits = 0;
+    FOR_ALL(is_level = is_level && is_parked[at]);
+    FOR_ALL(WHEN(is_level && state[at] == ASLEEP, bits = bits | BIT(at));
+            WHEN(is_level, is_parked[at] = 0; passes[at]++; state[at] = READY))
   }
-  if
-  :: bits -> turn++
-  :: else
-  fi;
+  WHEN(bits, turn++);
   unlock();
   asleep = asleep & ~bits;
-  if
-  :: state[me] == SPINNING ->
-     atomic {
-       if
-       :: state[me] == SPINNING -> state[me] = ASLEEP
-       :: else
-       fi
-     }
-  :: else
-  fi;
+  atomic { WHEN(state[me] == SPINNING, state[me] = ASLEEP) };
   do
   :: state[me] != READY ->
      seen = turn;
-     if
-     :: state[me] != READY -> sleep_on_turn(seen)
-     :: else
-     fi
+     WHEN(state[me] != READY, sleep_on_turn(seen))
   :: else -> break
   od;
   state[me] = SPINNING
@@ -272,24 +180,18 @@ inline wait_at_seat() {
 #endif
   do
   :: answer == NOT_YET ->
+#if FAULT != 3
+     seen = turn;
+#endif
+     look(handle[me], stands[me], answer);
 #if FAULT == 3
-     look(handle[me], stands[me], answer);
      seen = turn;
+#endif
+#if FAULT == 2
+     WHEN(answer == NOT_YET, sleepers++; sleep_on_turn(seen); sleepers--)
 #else
-     seen = turn;
-     look(handle[me], stands[me], answer);
+     WHEN(answer == NOT_YET, sleep_on_turn(seen))
 #endif
-     if
-     :: answer == NOT_YET ->
-#if FAULT == 2
-        sleepers++;
-#endif
-        sleep_on_turn(seen)
-#if FAULT == 2
-        ; sleepers--
-#endif
-     :: else
-     fi
   :: else -> break
   od;
 #if FAULT != 2
@@ -299,15 +201,7 @@ inline wait_at_seat() {
 #endif
 }
 
-inline pass() {
-  d_step {
-    at = 0;
-    do
-    :: at < THREADS -> assert(begun[at] > passed); at++
-    :: else -> break
-    od
-  }
-}
+inline pass() { d_step { FOR_ALL(assert(begun[at] > passed)) } }
 
 /* ---- Threads */
 
@@ -329,12 +223,7 @@ proctype thread(byte me) {
         coming[me] = stands[me] + 1;
 #endif
         if
-        :: answer == DONE ->
-#if FAULT != 1
-           wake_seats()
-#else
-           skip
-#endif
+        :: answer == DONE -> WHEN(FAULT != 1, wake_seats())
         :: else -> wait_at_seat()
         fi;
         if
@@ -369,19 +258,9 @@ proctype switcher(byte me) {
   do
   :: left > 0 ->
      lock();
-     if
-     :: era % 2 == 1 -> close_rounds()
-     :: else
-     fi;
+     WHEN(era % 2 == 1, close_rounds());
      await_told();
-     d_step {
-       at = 0;
-       assert(era % 2 == 0);
-       do
-       :: at < THREADS -> assert(!had_come[at]); at++
-       :: else -> break
-       od
-     }
+     d_step { assert(era % 2 == 0); FOR_ALL(assert(!had_come[at])) };
      unlock();
      left--
   :: else -> break
@@ -393,10 +272,7 @@ init {
   atomic {
     era = 1;
     count[1] = THREADS;
-    do
-    :: h < THREADS -> handle[h] = 1; run thread(h); h++
-    :: else -> break
-    od;
+    do :: h < THREADS -> handle[h] = 1; run thread(h); h++ :: else -> break od;
     run switcher(THREADS)
   }
 }
