@@ -535,16 +535,20 @@ static void wrong(void) {
 static void memory(void) {
   for (int way = 0; way < 4; way++) {
     paldwosk_barrier barrier;
-    paldwosk_task task = PALDWOSK_NO_TASK;
+    paldwosk_task task = PALDWOSK_NO_TASK, other = PALDWOSK_NO_TASK;
     paldwosk_answer answer = make_in_way(&barrier, way, 2);
     int is_traced = way % 2;
     MUST(answer == PALDWOSK_DONE || answer == PALDWOSK_MEMORY);
     paldwosk_answer made = paldwosk_barrier_make(&barrier, PALDWOSK_SIG_WAIT, &task);
     MUST(made == (answer == PALDWOSK_DONE ? PALDWOSK_DONE : PALDWOSK_CLOSED));
     size_t written = 0;
-    if (made == PALDWOSK_DONE) { /* no call takes memory any more */
+    if (made == PALDWOSK_DONE) { /* no answer depends on memory any more, whether the barrier can be fast or not */
       MUST(paldwosk_barrier_trace(&barrier, NULL, 0, &written) == (is_traced ? PALDWOSK_SHORT : PALDWOSK_NOT_KEPT));
       DONE(paldwosk_barrier_send(&task, 0, 1));
+      DONE(paldwosk_barrier_next(&task, NULL));
+      DONE(paldwosk_barrier_join(&task, PALDWOSK_SIG_WAIT, &other));
+      DONE(paldwosk_barrier_send(&other, 0, 1));
+      DONE(paldwosk_barrier_leave(&other));
       DONE(paldwosk_barrier_next(&task, NULL));
     }
     MUST(paldwosk_barrier_free(&barrier) == made);
