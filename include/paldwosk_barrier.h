@@ -12,16 +12,18 @@
  * Each call answers a paldwosk_answer, and a compiler warns if it isn't looked at. Here that is for `must`, which the
  * programs of examples/linked have.
  *
- * WHAT IS PROVED. While a barrier is fast the archive decides who comes last, whose values count and who may go on, for all
- * orders in which threads may call (phaser_c_level_..; promise 57 of docs/promises.md). While it is slow the functions
- * phaser_c_waiting_.. say of a call that they are given which tasks it frees, with which answer, in which order. By these calls
- * no task goes on too early, and a task that waits after one still has to wait.
- * NOT PROVED, but tested by tests/waiting, is what this header adds:
+ * WHAT IS PROVED. While a barrier is fast the archive decides who comes last, whose values count and who may go on, for
+ * all orders in which threads may call (phaser_c_level_..; promise 57 of docs/promises.md). While it is slow the
+ * functions phaser_c_waiting_.. say of a call that they are given which tasks it frees, with which answer, in which
+ * order. By these calls no task goes on too early, and a task that waits after one still has to wait.
+ * NOT PROVED, but tested by tests/waiting and tests/planted_faults, is what this header adds:
  *
- *   - In a fast phase: that a handle of the archive's is used by one thread at a time, and that a call's answer is the archive's;
- *     spins, yields, sleeps and wakes; and the number of the phase that is answered. If it errs in waking, tasks hang.
- *   - In the slow way: that a call's answer gets to its thread. In the change between fast and slow: that those who had come make
- *     their calls once, and what they kept is sent once. There a fault may let a task go early, or lose a value or fold it twice.
+ *   - In a fast phase it spins, yields, sleeps and wakes, which can hang. A handle of the archive's has to be used by
+ *     one thread at a time, for just the calls that its task makes, and a call has to be answered as the archive
+ *     answers. By nothing else can a task go early there. The number of the phase is this header's own count.
+ *   - In the slow way each answer has to get to its thread. In the change between fast and slow those who had come make
+ *     their calls once, and what they kept is sent once. There a fault may still let a task go early, or lose a value or
+ *     fold it twice.
  *   - The mutex, what is noted of each task to say which are missing, and the trace; a replay judges that.
  *
  * WHAT IT NEEDS. gcc or clang, C11 or C++17, and the threads of POSIX. -std=c11 does: nothing has to be defined
@@ -44,14 +46,14 @@
  * FAST AND SLOW. On Linux with x86-64 a barrier is fast while all its tasks are SIG_WAIT, stand in one phase and haven't
  * signalled it. Then the archive has the phaser in a table, and each task has a handle. paldwosk_barrier_next takes no
  * lock. It takes 1 from the table's count of the tasks that haven't come. The last to come makes the whole phase in that
- * call, and lets the others go. So a phase costs each task one change of one word, and the last some 40 ns for each task.
+ * call, and lets the others go. So a phase costs each task one change of a word, and the last some 40 ns for each task.
  *
  *   - Joins in SIG_WAIT and leaves take the lock, and leave the barrier fast; tasks come meanwhile. Sends and looks take
  *     none. A task keeps one value that it sends in a phase, without asking anybody. Further ones have the phaser for a
  *     moment each; so has each of a task numbered 256 or above, and a look after a join or such a send.
- *   - A task in another mode, a signal, wait or single, a call with a time, a second thread's call for a task that waits,
- *     a call for a task that has left, paldwosk_barrier_missing, _make and _free make it slow. Then each call takes the
- *     lock. No answer depends on it.
+ *   - A task in another mode, a signal, wait or single, a call with a time, a second thread's call for a task that
+ *     waits, a call for a task that has left, paldwosk_barrier_missing, _make and _free make it slow. Then each call
+ *     takes the lock. No answer depends on it.
  *   - A slow barrier is fast again once all stand in one phase and nobody waits. One that is made slow again and again
  *     stays so for longer, up to 64 such moments. It takes memory to become fast, and for each join then. If that is
  *     refused it stays slow, or becomes so.
@@ -130,8 +132,8 @@ extern "C" {
 #endif
 #endif
 
-/* ThreadSanitizer doesn't see the archive's atomic words, but sees what the archive copies and frees. So it is told whom a
- * phase orders, and leaves aside what is done within a call. */
+/* ThreadSanitizer doesn't see the archive's atomic words, but sees what the archive copies and frees. So it is told
+ * whom a phase orders, and leaves aside what is done within a call. */
 #ifdef PALDWOSKI_SANITIZED
 void __tsan_acquire(void *at);
 void __tsan_release(void *at);
@@ -537,7 +539,7 @@ struct paldwoski_sleeper {
 };
 
 PALDWOSK_INLINE struct paldwoski_sleeper paldwoski_new_sleeper(uint64_t task, uint32_t call, uint32_t single) {
-  struct paldwoski_sleeper me = {NULL, task, 0, NULL, call, single, PALDWOSK_NOT_YET, PALDWOSKI_SPINNING, 0, 0, 0, 0, 0, 0};
+  struct paldwoski_sleeper me = {NULL, task, 0, NULL, call, single, PALDWOSK_NOT_YET, 0, 0, 0, 0, 0, 0, 0};
   return me;
 }
 
@@ -558,11 +560,11 @@ enum { PALDWOSKI_LINE = 128 }; /* a processor may fetch two lines of memory at o
 
 #define PALDWOSKI_ALONE __attribute__((aligned(PALDWOSKI_LINE))) /* begins a line of its own */
 
-/* Where a task comes while the barrier is fast, by a handle of the archive's. What isn't atomic is of the thread that is at
- * the seat. With the lock another may be there: it claims the seat, or the barrier is slow, and nobody comes. */
+/* Where a task comes while the barrier is fast, by a handle of the archive's. What isn't atomic is of the thread that
+ * is at the seat. With the lock another may be there: it claims the seat, or the barrier is slow, and nobody comes. */
 struct paldwoski_seat {
   uint64_t task PALDWOSKI_ALONE; /* atomic: the number of its task; PALDWOSKI_NOBODY if it is free */
-  uint64_t coming;              /* atomic: the phase after the one in which its thread comes; 0 once it knows of the outcome */
+  uint64_t coming;              /* atomic: the phase after the one in which its thread comes; 0 once it knows how */
   uint32_t inside;              /* atomic: whether a thread is at it */
   uint32_t is_counted;          /* with the lock: its thread is among the untold */
   uint64_t phase;               /* where the task stands */
@@ -576,7 +578,7 @@ struct paldwoski_seat {
 struct paldwoski_rounds {
   uint64_t era PALDWOSKI_ALONE;         /* atomic: odd while the barrier is fast; it rises by 1 with each change */
   uint32_t sleepers PALDWOSKI_ALONE;    /* atomic: how many threads sleep at seats, or are about to */
-  uint32_t untold PALDWOSKI_ALONE;      /* atomic: how many had come when it became slow, and haven't told their call yet */
+  uint32_t untold PALDWOSKI_ALONE;      /* atomic: how many had come when it became slow, and haven't told it yet */
   uint32_t held;                       /* how many threads wait for that; meanwhile it stays slow */
   uint64_t opened;                     /* the phase in which it became fast last */
   uint64_t next_task;                  /* the number of the task that is registered next */
@@ -1162,9 +1164,9 @@ PALDWOSK_INLINE void paldwoski_let_others_run(uint32_t tried) {
   errno = kept;
 }
 
-/* ---- Rounds. While all tasks stand level the barrier is fast. The archive has its phaser then, in what the tasks share
- * there, and each task has a handle of its own. Of a task that comes the archive says whether it may go on. Who has a handle
- * when, who sleeps, and how the phaser goes there and back is seen to here. */
+/* ---- Rounds. While all tasks stand level the barrier is fast. The archive has its phaser then, in what the tasks
+ * share there, and each task has a handle of its own. Of a task that comes the archive says whether it may go on. Who
+ * has a handle when, who sleeps, and how the phaser goes there and back is seen to here. */
 
 #ifdef PALDWOSKI_IN_ROUNDS
 
@@ -1193,8 +1195,8 @@ PALDWOSK_INLINE void paldwoski_begin_era(paldwosk_barrier *barrier) {
   __atomic_store_n(era, __atomic_load_n(era, __ATOMIC_RELAXED) + 1, __ATOMIC_SEQ_CST);
 }
 
-/* Wakes those who sleep at seats: the archive lets them go by now, or the barrier is slow. A thread counts itself before it
- * reads the turn and looks for the last time. So it is seen here, or it sees there that it needn't sleep. */
+/* Wakes those who sleep at seats: the archive lets them go by now, or the barrier is slow. A thread counts itself
+ * before it reads the turn and looks for the last time. So it is seen here, or it sees there that it needn't sleep. */
 PALDWOSK_INLINE void paldwoski_wake_seats(paldwosk_barrier *barrier) {
   if (!__atomic_load_n(&barrier->rounds->sleepers, __ATOMIC_SEQ_CST)) return;
   paldwoski_raise_turn(barrier);
@@ -1244,7 +1246,7 @@ PALDWOSK_INLINE struct paldwoski_seat *paldwoski_enter_seat(const paldwosk_task 
   return NULL;
 }
 
-/* At a seat: the archive sends a value. It asks again while others have the phaser, unless the barrier is slow by now. */
+/* At a seat: has the archive send a value, and asks again while others have the phaser, unless the barrier is slow now. */
 PALDWOSK_INLINE uint32_t paldwoski_send_by(struct paldwoski_rounds *rounds, struct paldwoski_seat *seat, uint8_t index,
                                            int32_t value) {
   uint32_t answer = PALDWOSK_NOT_YET;
@@ -1268,7 +1270,7 @@ PALDWOSK_INLINE uint32_t paldwoski_look_by(struct paldwoski_rounds *rounds, stru
   return answer;
 }
 
-/* With the lock, at a seat: its handle is of this era after it. What was kept by the handle before is kept by this one. */
+/* With the lock, at a seat: its handle is of this era after it. What the handle before kept is kept by this one. */
 PALDWOSK_INLINE void paldwoski_fetch(struct paldwoski_rounds *rounds, struct paldwoski_seat *seat) {
   uint64_t era = __atomic_load_n(&rounds->era, __ATOMIC_RELAXED);
   paldwosk_level_task before = seat->level;
@@ -1357,8 +1359,8 @@ PALDWOSK_INLINE int paldwoski_are_seats_left(const paldwosk_barrier *barrier) {
   return place == PALDWOSKI_MOST_MEMBERS;
 }
 
-/* ---- From fast to slow. The phaser is the lock holder's again, and all tasks stand in it. Those that had come are told so
- * by the archive, and their threads then make their calls with the lock. */
+/* ---- From fast to slow. The phaser is the lock holder's again, and all tasks stand in it. Those that had come are
+ * told so by the archive, and their threads then make their calls with the lock. */
 
 PALDWOSK_INLINE void paldwoski_set_members(paldwosk_barrier *barrier, uint64_t phase) {
   for (size_t at = 0; at < PALDWOSKI_MEMBER_PLACES; at++)
@@ -1384,8 +1386,9 @@ PALDWOSK_INLINE void paldwoski_count_untold(paldwosk_barrier *barrier, uint64_t 
   __atomic_store_n(&rounds->untold, untold, __ATOMIC_RELAXED);
 }
 
-/* With the lock, at a fast barrier. Nobody comes to a seat from the first step on: else a second thread might come to one that
- * a thread has left which was told so. The archive refuses while it makes a round, or sends: that is soon over. */
+/* With the lock, at a fast barrier. Nobody comes to a seat from the first step on: else a second thread might come to
+ * one that a thread has left which was told so. The archive refuses while it makes a round, or sends: that is soon
+ * over. */
 PALDWOSK_INLINE void paldwoski_close_rounds(paldwosk_barrier *barrier) {
   struct paldwoski_rounds *rounds = barrier->rounds;
   uint64_t phase = 0;
@@ -1431,8 +1434,8 @@ PALDWOSK_INLINE void paldwoski_uncount(const paldwosk_task *task) {
   if (!rounds->untold && rounds->held) paldwoski_futex(&rounds->untold, 1, INT_MAX, UINT32_MAX);
 }
 
-/* With the lock, at a slow barrier: waits until nobody is at the task's seat, and nobody comes there until the lock is given
- * back. The phaser is told what the task keeps. */
+/* With the lock, at a slow barrier: waits until nobody is at the task's seat, and nobody comes there until the lock is
+ * given back. The phaser is told what the task keeps. */
 PALDWOSK_INLINE void paldwoski_empty_seat(const paldwosk_task *task) {
   struct paldwoski_seat *seat = paldwoski_seat_of(task);
   uint8_t index = 0;
@@ -1479,8 +1482,9 @@ PALDWOSK_INLINE void paldwoski_open_rounds(paldwosk_barrier *barrier) {
     barrier->rest_left--;
     return;
   }
-  uint32_t opened = PALDWOSKI_ARCHIVE(phaser_c_level_open(&rounds->level, &barrier->phaser, rounds->tasks, barrier->tasks));
-  if (opened != PALDWOSK_DONE) return;
+  const uint64_t *tasks = rounds->tasks;
+  if (PALDWOSKI_ARCHIVE(phaser_c_level_open(&rounds->level, &barrier->phaser, tasks, barrier->tasks)) != PALDWOSK_DONE)
+    return;
   if (!paldwoski_give_handles(barrier)) {
     (void)PALDWOSKI_ARCHIVE(phaser_c_level_close(&rounds->level, &barrier->phaser));
     return;
@@ -1518,9 +1522,11 @@ PALDWOSK_INLINE int paldwoski_look_at_seat(const paldwosk_task *task, uint8_t in
   return looked != PALDWOSK_NOT_YET;
 }
 
-/* The task has come, and others haven't. It spins, yields and sleeps until the archive lets it go, or the barrier is slow. */
+/* The task has come, and others haven't. It spins, yields and sleeps until the archive lets it go, or the barrier is
+ * slow. */
 PALDWOSK_INLINE uint32_t paldwoski_wait_at_seat(paldwosk_barrier *barrier, struct paldwoski_seat *seat) {
-  struct paldwoski_sleeper me = paldwoski_new_sleeper(__atomic_load_n(&seat->task, __ATOMIC_RELAXED), PALDWOSKI_CALL_NEXT, 0);
+  uint64_t task = __atomic_load_n(&seat->task, __ATOMIC_RELAXED);
+  struct paldwoski_sleeper me = paldwoski_new_sleeper(task, PALDWOSKI_CALL_NEXT, 0);
   me.level = &seat->level;
   if (paldwoski_is_over(&me)) return me.answer;
   me.patience = paldwoski_patience(barrier, &me, &seat->tries);
@@ -1552,8 +1558,8 @@ PALDWOSK_INLINE void paldwoski_end_coming(paldwosk_barrier *barrier, struct pald
 
 enum { PALDWOSKI_NOT_MADE = 999 }; /* no answer of the archive's */
 
-/* A next by the task's seat. NOT_MADE: the barrier is slow, or another is at the seat. CLOSED: it was made slow after the task
- * had come. Else it is what the next is answered. */
+/* A next by the task's seat. NOT_MADE: the barrier is slow, or another is at the seat. CLOSED: it was made slow after
+ * the task had come. Else it is what the next is answered. */
 PALDWOSK_INLINE uint32_t paldwoski_next_at_seat(const paldwosk_task *task, uint64_t *phase) {
   struct paldwoski_seat *seat = paldwoski_enter_seat(task);
   if (!seat) return PALDWOSKI_NOT_MADE;
@@ -1570,9 +1576,10 @@ PALDWOSK_INLINE uint32_t paldwoski_next_at_seat(const paldwosk_task *task, uint6
  * memory, the phaser is to be asked. */
 PALDWOSK_INLINE int paldwoski_join_at_seat(const paldwosk_task *parent, uint32_t place) {
   struct paldwoski_rounds *rounds = parent->barrier->rounds;
-  struct paldwoski_seat *seat = place == PALDWOSKI_NO_SEAT ? NULL : paldwoski_claim_seat(parent), *other = &rounds->seats[place];
+  struct paldwoski_seat *seat = place == PALDWOSKI_NO_SEAT ? NULL : paldwoski_claim_seat(parent);
   uint32_t answer = PALDWOSK_NOT_YET;
   if (!seat) return 0;
+  struct paldwoski_seat *other = &rounds->seats[place];
   for (uint32_t tried = 0; answer == PALDWOSK_NOT_YET && tried < PALDWOSKI_MOST_ASKED; tried++) {
     if (tried) paldwoski_bide(tried);
     answer = PALDWOSKI_ARCHIVE(phaser_c_level_join(&seat->level, &other->level));
@@ -1583,8 +1590,8 @@ PALDWOSK_INLINE int paldwoski_join_at_seat(const paldwosk_task *parent, uint32_t
   return answer == PALDWOSK_DONE;
 }
 
-/* With the lock: whether the task leaves by its seat, and isn't the last. Then those are let go for whom it was missing. If
- * the history is full they aren't. */
+/* With the lock: whether the task leaves by its seat, and isn't the last. Then those are let go for whom it was
+ * missing. If the history is full they aren't. */
 PALDWOSK_INLINE int paldwoski_leave_at_seat(const paldwosk_task *task) {
   paldwosk_barrier *barrier = task->barrier;
   struct paldwoski_seat *seat = barrier->tasks == 1 ? NULL : paldwoski_claim_seat(task);
@@ -1741,13 +1748,14 @@ enum { PALDWOSKI_MOST_TOLD = 16, PALDWOSKI_LINE_ROOM = 2048 }; /* sixteen tasks 
 PALDWOSK_INLINE void paldwoski_sleep_until(paldwosk_barrier *barrier, struct paldwoski_sleeper *me,
                                            const struct timespec *until) {
   enum { WAIT_BITSET = 9, IS_PRIVATE = 128 };
+  uint32_t *word = &barrier->turn;
   long slept = 0;
   paldwoski_unlock(barrier);
   paldwoski_spin(barrier, me);
   do {
     uint32_t seen = paldwoski_turn(barrier);
     if (paldwoski_is_ready(me)) break;
-    slept = syscall(PALDWOSKI_TIMED_FUTEX, &barrier->turn, WAIT_BITSET | IS_PRIVATE, seen, until, NULL, paldwoski_bit(me->task));
+    slept = syscall(PALDWOSKI_TIMED_FUTEX, word, WAIT_BITSET | IS_PRIVATE, seen, until, NULL, paldwoski_bit(me->task));
   } while (slept == 0 || errno != ETIMEDOUT);
   paldwoski_lock(barrier);
   me->patience = me->yields = 0; /* it has spun */
@@ -1961,8 +1969,9 @@ PALDWOSK_INLINE paldwosk_answer paldwoski_call_by(const paldwosk_task *task, uin
 }
 
 #ifdef PALDWOSKI_IN_ROUNDS
-/* A next: by the task's seat, or with the lock if the barrier is slow. It may be fast again once this thread has the lock. A
- * thread that had come tells its call in any case: it doesn't wait for others that had, since these may wait for it. */
+/* A next: by the task's seat, or with the lock if the barrier is slow. It may be fast again once this thread has the
+ * lock. A thread that had come tells its call in any case: it doesn't wait for others that had, since these may wait
+ * for it. */
 PALDWOSK_INLINE paldwosk_answer paldwoski_next_by(const paldwosk_task *task, uint64_t *phase) {
   for (;;) {
     paldwosk_answer entered = task ? paldwoski_may_enter(task->barrier) : PALDWOSK_NULL;
