@@ -18,8 +18,8 @@
 //! stays parked still has to wait. So no task is forgotten.
 //!
 //! A [`Phaser`] and a [`Barrier`] call these exports by the barrier in C, `include/paldwosk_barrier.h`, which is compiled into
-//! the library. It counts the tasks that come, has their threads spin, yield and sleep, and wakes them. It locks the calls, and
-//! notes a trace and which tasks are missing. Its head says what of this is proved. The rest is tested, from C and from here.
+//! the library. It has threads spin, yield and sleep, and wakes them. It locks the calls, and notes a
+//! trace and which tasks are missing. Its head says what of this is proved. The rest is tested, from C and from here.
 //!
 //! Nothing in this crate itself is proved; it is tested. It hands each call on. The `unsafe` code passes on what Rust's own types
 //! promise: slices and places that nothing else has, and a task that is lent to one call at a time. The memory of a barrier
