@@ -10,7 +10,7 @@ use Rattle.job_kernels.specs.PipelineTasks as piping
 use Rattle.job_kernels.specs.Results.{cells_of, items_of, refusal_of}
 use Rattle.job_kernels.specs.Stencil.{stencil, AtMost}
 use Rattle.job_kernels.specs.StencilTasks as cells
-use Rattle.job_kernels.proofs.StencilWhole.{runs_come_to_stencil}
+use Rattle.job_kernels.proofs.StencilLaws.{runs_come_to_stencil}
 use Rattle.job_kernels.proofs.StencilTotals.{runs_total_stencil}
 use Rattle.job_kernels.proofs.PipelineWhole.{runs_come_to_pipeline}
 use Rattle.job_kernels.proofs.PipelineTotals.{runs_total_pipeline}
